@@ -1,0 +1,7 @@
+mod Asked
+mod Cuts
+mod Lines
+mod Refusals
+mod Spelt
+mod TwoLined
+mod Words

@@ -1,0 +1,11 @@
+mod Befores
+mod Bounds
+mod InPlace
+mod Levels
+mod Once
+mod Pairs
+mod Rounds
+mod RunPlaces
+mod Shuffles
+mod Theorems
+mod Turned

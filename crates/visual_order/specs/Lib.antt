@@ -1,0 +1,4 @@
+pub mod Cause
+pub mod Laws
+pub mod Verdict
+pub mod VisualOrder
