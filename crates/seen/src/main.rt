@@ -1,5 +1,7 @@
-// Prints the visual order of a text, and the text as it is seen. `main` only reads and writes: what is printed is the
-// answer of `seen_text::answer`.
+// Prints the visual order of a text, and the text as it is seen. Line 1 of the input is the text and line 2 a level for each
+// of its characters; line 3, which may be left out, asks for the level resets of rule L1 first: the paragraph's level, and
+// the name of each character's bidi class. `main` only reads and writes: what is printed is the answer of
+// `seen_text::answer`.
 use seen_text::FormatFaultDisplay;
 use seen_text::InputFault;
 use seen_text::answer;

@@ -1,27 +1,20 @@
--- The two lines of an input
+-- Bytes that are two lines
 use mathlib.Core.Path.{_≡_, refl, sym, ap, subst, _∙_}
 use mathlib.Core.List.{List, [], _∷_, _++_}
 use mathlib.Core.Logic.{_⊎_, inl, inr}
 use Prim.Native.Nat.{ℕ, zero, suc, _+_, _-_, _<_, _≤_}
 use native.Mathlib.Omega.{arith}
 use lib.ListN.{length, getD, take, drop, length-append, length-drop, length-take}
-use Rattle.std.specs.Text.{Utf8}
-use Rattle.std.specs.declared.result.Result.the-variants.{Ok, Err}
 use Rattle.std.proofs.shelf.Lists.{drop-all, drop-more, getD-append-add, getD-append-left, getD-at, getD-drop, getD-take, same-from-push, take-all, take-append-drop}
 use Rattle.std.proofs.shelf.Tests.{cases-lt}
-use Rattle.seen_text.specs.Format.{Lacks, Levels, TwoLines}
-use Rattle.seen_text.specs.Inputs.{ReadsInput}
-use Rattle.seen_text.specs.Numbers.{spelled}
-use Rattle.seen_text.specs.Reading.{ReadsLevels}
-use Rattle.seen_text.specs.declared.format_fault.InputFault.{InputFault}
-use Rattle.seen_text.specs.declared.format_fault.InputFault.the-variants.{Format, Memory}
+use Rattle.seen_text.specs.Format.{Lacks, TwoLines}
 use Rattle.seen_text.proofs.Cuts.{cut-at, same-cut}
 
 -- what follows the first line feed
-abbrev Follows : List ℕ → List ℕ → Type 0
+abbrev pub Follows : List ℕ → List ℕ → Type 0
 Follows rest second = ((0 < length second) × (rest ≡ second)) ⊎ (rest ≡ second ++ (10 ∷ []))
 
-after-first : {bytes first second : List ℕ} → TwoLines bytes first second → (rest : List ℕ) × (bytes ≡ first ++ (10 ∷ rest)) × Follows rest second
+pub after-first : {bytes first second : List ℕ} → TwoLines bytes first second → (rest : List ℕ) × (bytes ≡ first ++ (10 ∷ rest)) × Follows rest second
 after-first {bytes} {first} {second} two = by (two .lines)
   where
     by : ((0 < length second) × (bytes ≡ first ++ (10 ∷ second))) ⊎ (bytes ≡ first ++ (10 ∷ (second ++ (10 ∷ [])))) → (rest : List ℕ) × (bytes ≡ first ++ (10 ∷ rest)) × Follows rest second
@@ -29,7 +22,7 @@ after-first {bytes} {first} {second} two = by (two .lines)
     by (inr e) = (second ++ (10 ∷ []), e, inr refl)
 
 -- something follows the first line feed
-follows-some : (rest second : List ℕ) → Follows rest second → 0 < length rest
+pub follows-some : (rest second : List ℕ) → Follows rest second → 0 < length rest
 follows-some rest second (inl (some, e)) = omega (arith, ap length e)
 follows-some rest second (inr e) = omega (arith, ap length e, length-append second (10 ∷ []))
 
@@ -38,6 +31,13 @@ pub no-lines : (bytes : List ℕ) (n : ℕ) → length bytes ≤ n + 1 → ((p :
 no-lines bytes n short without first second two =
     let (rest, is, follows) = after-first two in
     without (length first) (omega arith) (omega (arith, ap length is, length-append first (10 ∷ rest), follows-some rest second follows)) (ap (λ (t : List ℕ). getD t (length first) 0) is ∙ getD-at first 10 rest 0 (length first) refl)
+
+-- no line feed stands before the end of what is one line
+pub at-end : {second : List ℕ} (rest : List ℕ) (k : ℕ) → Lacks 10 second → getD rest k 0 ≡ 10 → k + 1 < length rest → Follows rest second → ⊥
+at-end rest k lacks feed long (inl (some, e)) = lacks k (omega (arith, ap length e)) (ap (λ (t : List ℕ). getD t k 0) (sym e) ∙ feed)
+at-end {second} rest k lacks feed long (inr e) =
+    let short : k < length second = omega (arith, ap length e, length-append second (10 ∷ [])) in
+    lacks k short (sym (getD-append-left second (10 ∷ []) 0 k short) ∙ ap (λ (t : List ℕ). getD t k 0) (sym e) ∙ feed)
 
 -- a line feed at `one` and another at `two` that is not last make more than two lines
 module _ (bytes : List ℕ) (one two : ℕ) (one-feed : getD bytes one 0 ≡ 10) (none-before : (p : ℕ) → 0 ≤ p → p < one → getD bytes p 0 ≡ 10 → ⊥) (later : one + 1 ≤ two) (two-feed : getD bytes two 0 ≡ 10) (more : two + 1 < length bytes) where
@@ -51,21 +51,24 @@ module _ (bytes : List ℕ) (one two : ℕ) (one-feed : getD bytes one 0 ≡ 10)
           let at : length first + suc k ≡ two = omega arith in
           let feed : getD rest k 0 ≡ 10 = sym (getD-append-add first (10 ∷ rest) (suc k) 0) ∙ ap (λ (t : List ℕ). getD t (length first + suc k) 0) (sym is) ∙ ap (λ (p : ℕ). getD bytes p 0) at ∙ two-feed in
           let long : k + 1 < length rest = omega (arith, ap length is, length-append first (10 ∷ rest)) in
-          at-end rest k feed long follows
-        where
-          at-end : (rest : List ℕ) (k : ℕ) → getD rest k 0 ≡ 10 → k + 1 < length rest → Follows rest second → ⊥
-          at-end rest k feed long (inl (some, e)) = lines .second-line k (omega (arith, ap length e)) (ap (λ (t : List ℕ). getD t k 0) (sym e) ∙ feed)
-          at-end rest k feed long (inr e) =
-              let short : k < length second = omega (arith, ap length e, length-append second (10 ∷ [])) in
-              lines .second-line k short (sym (getD-append-left second (10 ∷ []) 0 k short) ∙ ap (λ (t : List ℕ). getD t k 0) (sym e) ∙ feed)
+          at-end rest k (lines .second-line) feed long follows
+
+-- the bytes before a line feed and those behind it
+pub parted : (bytes : List ℕ) (one : ℕ) → one < length bytes → getD bytes one 0 ≡ 10 → bytes ≡ take one bytes ++ (10 ∷ drop (one + 1) bytes)
+parted bytes one within feed =
+    sym (take-append-drop one bytes)
+    ∙ ap (λ (t : List ℕ). take one bytes ++ t) (drop-more bytes one 0 within)
+    ∙ ap (λ (x : ℕ). take one bytes ++ (x ∷ drop (one + 1) bytes)) feed
+
+pub first-lacks : (bytes : List ℕ) (one : ℕ) → ((p : ℕ) → 0 ≤ p → p < one → getD bytes p 0 ≡ 10 → ⊥) → Lacks 10 (take one bytes)
+first-lacks bytes one none-before p l e =
+    let pl : p < one = omega (arith, length-take one bytes) in
+    none-before p (omega arith) pl (sym (getD-take one bytes p 0 pl) ∙ e)
 
 -- the lines that stand before the feeds
 module _ (bytes : List ℕ) (one two : ℕ) (one-within : one + 1 < length bytes) (one-feed : getD bytes one 0 ≡ 10) (none-before : (p : ℕ) → 0 ≤ p → p < one → getD bytes p 0 ≡ 10 → ⊥) (later : one + 1 ≤ two) (two-within : two ≤ length bytes) (none-between : (p : ℕ) → one + 1 ≤ p → p < two → getD bytes p 0 ≡ 10 → ⊥) (two-feed : two < length bytes → getD bytes two 0 ≡ 10) (last : length bytes ≤ two + 1) where
-  parted : bytes ≡ take one bytes ++ (10 ∷ drop (one + 1) bytes)
-  parted =
-      sym (take-append-drop one bytes)
-      ∙ ap (λ (t : List ℕ). take one bytes ++ t) (drop-more bytes one 0 (omega arith))
-      ∙ ap (λ (x : ℕ). take one bytes ++ (x ∷ drop (one + 1) bytes)) one-feed
+  halves : bytes ≡ take one bytes ++ (10 ∷ drop (one + 1) bytes)
+  halves = parted bytes one (omega arith) one-feed
 
   ends : ((length bytes ≤ two) × (take (two - (one + 1)) (drop (one + 1) bytes) ≡ drop (one + 1) bytes)) ⊎ (take (two - (one + 1)) (drop (one + 1) bytes) ++ (10 ∷ []) ≡ drop (one + 1) bytes)
   ends = by (cases-lt two (length bytes))
@@ -85,13 +88,13 @@ module _ (bytes : List ℕ) (one two : ℕ) (one-within : one + 1 < length bytes
   two-lines = subst (λ (n : ℕ). TwoLines bytes (take n bytes) (take (two - (one + 1)) (drop (one + 1) bytes))) (omega arith) made
     where
       by : ((length bytes ≤ two) × (take (two - (one + 1)) (drop (one + 1) bytes) ≡ drop (one + 1) bytes)) ⊎ (take (two - (one + 1)) (drop (one + 1) bytes) ++ (10 ∷ []) ≡ drop (one + 1) bytes) → ((0 < length (take (two - (one + 1)) (drop (one + 1) bytes))) × (bytes ≡ take one bytes ++ (10 ∷ take (two - (one + 1)) (drop (one + 1) bytes)))) ⊎ (bytes ≡ take one bytes ++ (10 ∷ (take (two - (one + 1)) (drop (one + 1) bytes) ++ (10 ∷ []))))
-      by (inl (l, e)) = inl (omega (arith, ap length e, length-drop (one + 1) bytes), parted ∙ ap (λ (t : List ℕ). take one bytes ++ (10 ∷ t)) (sym e))
-      by (inr e) = inr (parted ∙ ap (λ (t : List ℕ). take one bytes ++ (10 ∷ t)) (sym e))
+      by (inl (l, e)) = inl (omega (arith, ap length e, length-drop (one + 1) bytes), halves ∙ ap (λ (t : List ℕ). take one bytes ++ (10 ∷ t)) (sym e))
+      by (inr e) = inr (halves ∙ ap (λ (t : List ℕ). take one bytes ++ (10 ∷ t)) (sym e))
 
       made : TwoLines bytes (take one bytes) (take (two - (one + 1)) (drop (one + 1) bytes))
       made =
           record {
-            first-line = λ p l e. let pl : p < one = omega (arith, length-take one bytes) in none-before p (omega arith) pl (sym (getD-take one bytes p 0 pl) ∙ e);
+            first-line = first-lacks bytes one none-before;
             second-line = λ p l e. let pl : p < two - (one + 1) = omega (arith, length-take (two - (one + 1)) (drop (one + 1) bytes)) in none-between (one + 1 + p) (omega arith) (omega arith) (sym (getD-drop (one + 1) bytes p 0) ∙ sym (getD-take (two - (one + 1)) (drop (one + 1) bytes) p 0 pl) ∙ e);
             lines = by ends;
           }
@@ -111,12 +114,3 @@ same-lines {bytes} {first} {second} other third one two =
     let (more, are, follow) = after-first two in
     let cut = same-cut 10 first other rest more (one .first-line) (two .first-line) (sym is ∙ are) in
     (cut .0, same-second rest second third (one .second-line) (two .second-line) follows (subst (λ (t : List ℕ). Follows t third) (sym (cut .1)) follow))
-
--- a first line that is no text
-pub no-text : {bytes first second : List ℕ} → TwoLines bytes first second → (Utf8 first → ⊥) → (text levels : List ℕ) → Utf8 text → Levels levels → TwoLines bytes text (spelled levels) → ⊥
-no-text two bad text levels utf8 small asked = bad (subst Utf8 (sym (same-lines text (spelled levels) two asked .0)) utf8)
-
--- a second line that is no levels
-pub no-levels : {bytes first second : List ℕ} (fault : InputFault) → TwoLines bytes first second → ReadsLevels second (Err fault) → ReadsInput bytes (Err fault)
-no-levels (Format fault) two bad = λ text levels utf8 small asked. bad levels small (same-lines text (spelled levels) two asked .1)
-no-levels Memory two bad = tt

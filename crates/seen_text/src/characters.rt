@@ -9,13 +9,6 @@ use std::alloc::AllocError;
 use std::alloc::Global;
 use visual_order::Character;
 
-// How many characters the text has.
-pub(crate) fn character_count(text: &str) -> usize
-    ensures { λ r. ⌜ r ≡ length (decodes (now (text .entry))) ⌝ }
-{
-    text.chars().count()
-}
-
 // Each character of the text with its level, which stands at the same place of `levels`.
 pub(crate) fn characters(
     heap: Global,

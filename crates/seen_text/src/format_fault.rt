@@ -18,6 +18,12 @@ pub enum FormatFault {
     NoLevel { place: usize },
     /// Line 2 has not one level for each character of line 1.
     CountsDiffer { characters: usize, levels: usize },
+    /// Line 3 does not begin with a paragraph's level, 0 or 1.
+    NoParagraphLevel,
+    /// The word for the character at this place is no name of a bidi class.
+    NoClass { place: usize },
+    /// Line 3 has not one class for each character of line 1.
+    ClassCountsDiffer { characters: usize, classes: usize },
 }
 
 pub impl fmt::Display for FormatFault as FormatFaultDisplay {
@@ -32,6 +38,16 @@ pub impl fmt::Display for FormatFault as FormatFaultDisplay {
             FormatFault::CountsDiffer { characters, levels } => {
                 write!(f, "line 2: {levels} levels for {characters} characters")
             }
+            FormatFault::NoParagraphLevel => {
+                write!(f, "line 3, word 1: no paragraph level of 0 or 1")
+            }
+            FormatFault::NoClass { place } => {
+                write!(f, "line 3, class {place}: no name of a bidi class")
+            }
+            FormatFault::ClassCountsDiffer {
+                characters,
+                classes,
+            } => { write!(f, "line 3: {classes} classes for {characters} characters") }
         }
     }
 }

@@ -10,7 +10,6 @@ ghost use Rattle.visual_order.specs.VisualOrder.{visual};
 ghost use lib.ListN.{length, getD};
 ghost use mathlib.Core.List.{map};
 ghost use mathlib.Core.Path.{_≡_};
-use crate::characters::character_count;
 use crate::characters::characters;
 use crate::see_fault::SeeFault;
 use crate::see_fault::SeeFaultFromAlloc;
@@ -60,7 +59,7 @@ fn visual_indices(heap: Global, characters: &[Character]) -> Result<Vec<usize>, 
 pub fn see(heap: Global, text: &str, levels: &[u8]) -> Result<Seen, SeeFault>
     ensures { λ r. ⌜ Sees (now (text .entry)) (now (levels .entry)) r ⌝ }
 {
-    let count = character_count(text);
+    let count = text.chars().count();
     if count != levels.len() {
         return Err(SeeFault::CountsDiffer {
             characters: count,

@@ -1,0 +1,5 @@
+mod Bytes
+mod Rows
+mod Rule
+pub mod Scanning
+mod Verdicts
