@@ -1,0 +1,12 @@
+pub mod Rows
+pub mod Tiling
+pub mod Failing
+pub mod Verdicts
+pub mod Holding
+pub mod Growth
+pub mod Countings
+pub mod Ranking
+pub mod Around
+pub mod Befores
+pub mod Joining
+pub mod Fitting

@@ -1,0 +1,12 @@
+pub mod Text
+pub mod Reading
+pub mod Faults
+pub mod Pieces
+pub mod Verdict
+pub mod Lawful
+pub mod Lent
+pub mod Holds
+pub mod Ranks
+pub mod Before
+pub mod Parts
+pub mod Laws
