@@ -1,0 +1,4 @@
+pub mod LayerLaws
+pub mod PointTests
+pub mod RowNumbers
+pub mod RowSteps
