@@ -1,0 +1,16 @@
+pub mod Intervals
+pub mod Places
+pub mod Joins
+pub mod Cuts
+pub mod Spans
+pub mod Held
+pub mod Walks
+pub mod Numbers
+pub mod Runs
+pub mod Sums
+pub mod Laid
+pub mod Flags
+pub mod Closings
+pub mod Takings
+pub mod Bounds
+pub mod Every
