@@ -1,0 +1,4 @@
+pub mod Ellipsis
+pub mod Elided
+pub mod Lines
+pub mod Halves
