@@ -1,0 +1,4 @@
+pub mod Verdicts
+pub mod Orders
+pub mod Answering
+pub mod Continuing

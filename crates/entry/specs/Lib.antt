@@ -1,0 +1,9 @@
+pub mod Faults
+pub mod Verdict
+pub mod Granted
+pub mod Lines
+pub mod Steps
+pub mod Written
+pub mod Continues
+pub mod Entries
+pub mod Outcomes

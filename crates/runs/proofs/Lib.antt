@@ -1,0 +1,10 @@
+pub mod Lists
+pub mod Ellipses
+pub mod Standing
+pub mod Refusals
+pub mod Grants
+pub mod Runs
+pub mod Measures
+pub mod Recordings
+pub mod Performances
+pub mod Openings
