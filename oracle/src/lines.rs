@@ -397,3 +397,35 @@ fn print_case(tables: &Tables, q: &Question, answer: &Answer) {
         answer.width_bits
     );
 }
+
+/// Words of these lengths in one span, each glyph of advance 1, with an ellipsis of 1.
+fn cells(level: u8, lengths: &[usize]) -> Tables {
+    let mut tables = Tables::default();
+    let one = |byte: usize| Glyph { start: byte as u16, end: byte as u16 + 1, advance: 1.0, size: None };
+    for &len in lengths {
+        let first = tables.glyphs.len();
+        let word: Vec<Glyph> = (first..first + len).map(one).collect();
+        tables.push_word(false, &word);
+    }
+    tables.spans.push(Span { level, offset: 0, len: lengths.len() });
+    tables.ellipsis = vec![one(0)];
+    tables
+}
+
+/// Prints what each side answers on the inputs that docs/DIFFERENCES.md gives for the listed differences.
+pub fn show_differences() -> bool {
+    let ask = |tables: &Tables, name: &str, position: [usize; 3], mode: Mode, width: f32| {
+        let q = Question { position, mode, width: Some(width), size: 1.0 };
+        let mut prepared = prepare(tables);
+        println!("{name}\n  Rust {:?}\n  here {:?}", rust::layout_line(&prepared.rust, &q), library::layout_line(&mut prepared.library, &q));
+    };
+    let against = cells(1, &[3, 4]);
+    let unstarted = Question { position: [0, 0, 0], mode: Mode::End, width: Some(6.0), size: 1.0 };
+    println!("no start, first span against the direction, End 6\n  Rust {:?}", rust::layout_unstarted_line(&rust::prepare(&against), &unstarted));
+    ask(&against, "the same, started at the opening edge", [0, 2, 0], Mode::End, 6.0);
+    ask(&against, "forward from inside an incongruent word, End 0", [0, 0, 1], Mode::End, 0.0);
+    let along = cells(0, &[4, 3]);
+    ask(&along, "backward from no opening edge, Start 3", [0, 0, 3], Mode::Start, 3.0);
+    ask(&along, "Middle without a half, Middle 1", [0, 0, 0], Mode::Middle, 1.0);
+    true
+}

@@ -1,6 +1,6 @@
 //! Compares the library with the lifted Rust, times both, and writes samples of the Rust's answers.
 //!
-//! Usage: compare order | levels | points | lines | speed | sample-order | sample-levels | sample-lines
+//! Usage: compare order | levels | points | lines | differences | speed | sample-order | sample-levels | sample-lines
 
 mod levels;
 mod library;
@@ -20,6 +20,7 @@ fn main() -> ExitCode {
         "order" => order::compare(),
         "levels" => levels::compare(),
         "lines" => lines::compare(),
+        "differences" => lines::show_differences(),
         "points" => points::compare(),
         "speed" => timing::compare(),
         "sample-order" => order::sample(),

@@ -106,6 +106,11 @@ pub fn visual_line(line: &Prepared, q: &lines::Question) -> impl Sized {
 }
 
 fn lay(line: &Prepared, q: &lines::Question) -> VisualLine {
+    let [span, word, glyph] = q.position;
+    lay_from(line, q, Some(SpanWordGlyphPos { span, word, glyph }))
+}
+
+fn lay_from(line: &Prepared, q: &lines::Question, start: Option<SpanWordGlyphPos>) -> VisualLine {
     let limit = EllipsizeHeightLimit::Lines(1);
     let ellipsize = match q.mode {
         lines::Mode::None => Ellipsize::None,
@@ -113,16 +118,22 @@ fn lay(line: &Prepared, q: &lines::Question) -> VisualLine {
         lines::Mode::Middle => Ellipsize::Middle(limit),
         lines::Mode::End => Ellipsize::End(limit),
     };
-    let [span, word, glyph] = q.position;
-    let start = SpanWordGlyphPos { span, word, glyph };
     let mut visual = VisualLine::default();
-    line.0.layout_line(&mut visual, q.size, &line.0.spans, Some(start), line.0.rtl, q.width, ellipsize);
+    line.0.layout_line(&mut visual, q.size, &line.0.spans, start, line.0.rtl, q.width, ellipsize);
     visual
 }
 
 /// `layout_line`, started at the position.
 pub fn layout_line(line: &Prepared, q: &lines::Question) -> lines::Answer {
-    let visual = lay(line, q);
+    answer_of(lay(line, q))
+}
+
+/// `layout_line` without a start.
+pub fn layout_unstarted_line(line: &Prepared, q: &lines::Question) -> lines::Answer {
+    answer_of(lay_from(line, q, None))
+}
+
+fn answer_of(visual: VisualLine) -> lines::Answer {
     let range = |r: &VlRange| lines::LineRange {
         span: r.span,
         start: [r.start.word, r.start.glyph],

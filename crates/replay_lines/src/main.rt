@@ -1,4 +1,4 @@
-// Replays stored answers of the Rust's `layout_line`, on points. A line of standard input is one case: eight rows of numbers, parted by ` ; `, all whole,
+// Replays stored answers of the Rust's `layout_line`, on points. A line of standard input is one case: seven parts of numbers, parted by ` ; `, all whole,
 // floats as the bits of an f32:
 //
 //     question ; glyphs ; words ; spans ; ellipsis ; ranges ; line
