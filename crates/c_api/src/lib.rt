@@ -1,5 +1,7 @@
 // What Rust and C link, to hold the library against other code and to time it. A slice is passed as a pointer and a length; 0 answers a granted call, and the
 // number of the cause a refused one.
+#![tactic(auto)]
+
 pub mod entries;
 pub mod level_resets;
 pub mod lines;

@@ -7,6 +7,8 @@
 // - `order`: the visual order of a line's ranges;
 // - `fault`: why a call is refused;
 // - `call`: the calls as values.
+#![tactic(auto)]
+
 pub mod call;
 mod checks;
 pub mod entry;

@@ -2,6 +2,8 @@
 //
 // - `layout_line`: the line, mode by mode; `layout_middle`: the mode with two halves; `line`: what is asked for and told;
 // - `ellipsis`: its range and its level; `elided`: the bytes that it stands for.
+#![tactic(auto)]
+
 pub mod elided;
 pub mod ellipsis;
 pub mod layout_line;

@@ -1,4 +1,6 @@
 // What closing lines mean: laws above their definition, in the words of the subject. A law is a function's contract; the functions do nothing.
+#![tactic(auto)]
+
 ghost use Rattle.layout_laws.specs.Laws.{EveryEnding, EveryFittingLine, EveryLine, EveryLineWidth, EveryTakenLine, EveryWholeLine};
 ghost use Rattle.layout_laws.specs.Worked.{Worked};
 

@@ -1,4 +1,6 @@
 // Levels of characters after rule L1 of the bidirectional algorithm (UAX #9).
+#![tactic(auto)]
+
 pub mod adjust;
 pub mod classes;
 pub mod fault;

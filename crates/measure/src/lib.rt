@@ -1,4 +1,6 @@
 // Measures: what asks a glyph's width, and what may be done with widths.
+#![tactic(auto)]
+
 pub mod cells;
 pub mod exact;
 pub mod layer;

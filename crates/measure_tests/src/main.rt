@@ -1,5 +1,7 @@
 // Reads a measure's name from each line, and writes what a row of glyphs measures by it.
 // Beside the measures of `measure_text`, it knows three of its own.
+#![tactic(auto)]
+
 mod nested;
 mod thirds;
 

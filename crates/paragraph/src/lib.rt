@@ -2,6 +2,8 @@
 //
 // The records: word, span, place, direction, tables. The check: fault, piece, row, check. What was checked: paragraph.
 // The geometry: reading, lookup, geometry, before, part. How it fits together: laws.
+#![tactic(auto)]
+
 pub mod before;
 pub mod check;
 pub mod direction;

@@ -1,6 +1,8 @@
 // Replays recorded lines: `PARAGRAPH LEVEL ; CLASSES ; BYTE LENGTHS ; LEVELS ; EXPECTED LEVELS`, the classes by name, the
 // rest as decimals, one class and length for each character and one level for each byte. Says how many lines there are
 // and that none differs, or shows the first whose levels after `adjust_levels` are not the expected ones.
+#![tactic(auto)]
+
 ghost use Rattle.levels.specs.Refusals.{verdict};
 ghost use Rattle.levels.specs.RuleL1.{adjusted};
 ghost use Rattle.std.specs.Prelude.{◌≡◌, true, is_ok};

@@ -10,6 +10,8 @@
 // - the line that the Rust gave: blanks, width, whether the ellipsis stands, elided start and end.
 //
 // Prints how many lines there are and how many of them are answered otherwise here, and the first of those.
+#![tactic(auto)]
+
 use anyhow::anyhow;
 use glyph::glyph::Glyph;
 use layout::layout_line::layout_line;

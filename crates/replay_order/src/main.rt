@@ -1,5 +1,7 @@
 // Replays stored answers of the Rust: each line of standard input has levels and the order that the Rust gave for them, as
 // `2 2 1 ; 2 0 1`. Prints how many lines there are and how many of them `reorder` answers otherwise, and the first of those.
+#![tactic(auto)]
+
 use anyhow::anyhow;
 use std::alloc::Global;
 use std::io::Read;

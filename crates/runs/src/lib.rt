@@ -6,6 +6,8 @@
 // - `fault`: why there is no record;
 // - `performing`, `recording`: the calls one after another, and their answers;
 // - `laws`: the law of every run, above the definition of what each call answers.
+#![tactic(auto)]
+
 pub mod event;
 pub mod fault;
 pub mod laws;

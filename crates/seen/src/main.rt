@@ -2,6 +2,8 @@
 // of its characters; line 3, which may be left out, asks for the level resets of rule L1 first: the paragraph's level, and
 // the name of each character's bidi class. `main` only reads and writes: what is printed is the answer of
 // `seen_text::answer`.
+#![tactic(auto)]
+
 use seen_text::{InputFault, answer};
 use std::io;
 use std::io::Read;

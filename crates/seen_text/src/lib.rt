@@ -13,6 +13,8 @@
 // - `resets`: the levels after the level resets;
 // - `see_fault`: why a text is not seen;
 // - `seen_line`: the visual order of a text, and the text in that order.
+#![tactic(auto)]
+
 mod characters;
 mod class_line;
 mod format_fault;

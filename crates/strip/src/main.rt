@@ -1,5 +1,7 @@
 // Reads paragraphs, measures and calls from standard input, and prints what the calls answer. `main` only reads and writes: what is printed is the
 // answer of `strip_text::answer`.
+#![tactic(auto)]
+
 use std::io;
 use std::io::Read;
 use strip_text::{InputFault, answer};

@@ -12,6 +12,8 @@
 // - `steps`: the lines of calls;
 // - `width_text`: widths as text;
 // - `written`: what is written for each answer.
+#![tactic(auto)]
+
 mod answering;
 mod fault;
 mod fields;

@@ -7,6 +7,8 @@
 // - `runs`: one round of the rule, at one level;
 // - `reordering`: the public call;
 // - `laws`: what holds of the rule itself.
+#![tactic(auto)]
+
 mod character;
 mod fault;
 mod laws;

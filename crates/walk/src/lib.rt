@@ -3,6 +3,8 @@
 // - `layout_spans`: the walk; `line`: what it is given and what it tells;
 // - `ahead`, `part`, `rest`: what is ahead in a span, word by word; `widths`, `overflow`: how wide that is, and which word does not fit;
 // - `fit_glyphs`: the glyphs that such a word gives; `put`: the ranges written.
+#![tactic(auto)]
+
 mod ahead;
 mod fit_glyphs;
 pub mod layout_spans;

@@ -1,4 +1,6 @@
 // What walks mean: laws above the definition of a walk, in the words of the subject. A law is a function's contract; the functions do nothing.
+#![tactic(auto)]
+
 ghost use Rattle.walk_laws.specs.Laws.{EveryWalk, EveryTake, EveryWidth, EveryEllipsis, EveryClosing, EveryTaking};
 
 use measure::exact::ExactMeasure;

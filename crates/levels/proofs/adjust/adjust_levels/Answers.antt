@@ -23,13 +23,13 @@ returns-in-err-check-tables c =
 
 pub returns : goal.returns
 returns c =
-    let fit = judged c.args.paragraph_level c.args.classes.now c.args.lengths.now c.args.levels.now _ c.in-ok-check-tables.ensures in
+    let fit = judged c.args.paragraph_level c.args.classes.now c.args.lengths.now c.args.levels.now _ c.in_ok-check_tables.ensures in
     record {
-      verdict = c.in-ok-check-tables.ensures;
+      verdict = c.in_ok-check_tables.ensures;
       grounds = fit;
-      after = c.reset-runs.ensures;
+      after = c.reset_runs.ensures;
       rule =
           subst (λ new. Leveled c.args.paragraph_level (roles_of c.args.classes.now) c.args.lengths.now c.args.levels.now new)
-          (sym c.reset-runs.ensures)
+          (sym c.reset_runs.ensures)
           (leveled c.args.paragraph_level c.args.classes.now c.args.lengths.now c.args.levels.now fit);
     }

@@ -19,7 +19,7 @@ pub loop-i-preserved : goal.loop-i-preserved
 loop-i-preserved c =
     let in_lengths : c.loop-i.i < length c.args.lengths.now = omega arith in
     let inside : c.loop-i.at + get_or c.args.lengths.now c.loop-i.i 0 ≤ length c.args.levels.now = within c.args.lengths.now c.loop-i.i c.loop-i.at (length c.args.levels.now) in_lengths c.loop-i.invariant.0 c.requires.filled in
-    let class_is : class_of (get_or c.args.classes.now c.loop-i.i 0) ≡ c.unwrap-class.result = ap (λ o. unwrap_or o ON) (sym c.from-code.ensures ∙ c.unwrap-class.ensures) in (
+    let class_is : class_of (get_or c.args.classes.now c.loop-i.i 0) ≡ c.unwrap-class.result = ap (λ o. unwrap_or o ON) (sym c.from_code.ensures ∙ c.unwrap-class.ensures) in (
       omega (arith, c.loop-i.invariant.0, sum_by_more (λ x. x) c.args.lengths.now c.loop-i.i 0 in_lengths),
       subst (λ u. start_of u (c.loop-i.at + get_or c.args.lengths.now c.loop-i.i 0) ≤ c.loop-i.at + get_or c.args.lengths.now c.loop-i.i 0) (sym c.step-run.ensures.run) (started c.loop-i.run (role_of c.unwrap-class.result) c.loop-i.at (get_or c.args.lengths.now c.loop-i.i 0) c.loop-i.invariant.1),
       sym

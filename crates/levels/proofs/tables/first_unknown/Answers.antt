@@ -11,7 +11,7 @@ returns-then-is-none c =
 pub loop-row-preserved : goal.loop-row-preserved
 loop-row-preserved c =
     row_passed known _ _ _ c.loop-row.invariant c.loop-row-test.true
-    (sym (ap is_some c.from-code.ensures) ∙ c.if-is-none.ensures)
+    (sym (ap is_some c.from_code.ensures) ∙ c.if-is_none.ensures)
 
 pub returns : goal.returns
 returns c = omega (arith, rows_done known _ _ _ c.loop-row.invariant c.loop-row-test.false)
