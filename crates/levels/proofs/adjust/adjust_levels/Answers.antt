@@ -5,18 +5,18 @@ use Rattle.levels.proofs.Bytes.{leveled}
 use Rattle.levels.proofs.Verdicts.{judged}
 use Rattle.levels.proofs.adjust.adjust_levels.Goals as goal
 
-pub reset-runs-requires : goal.reset-runs-requires
-reset-runs-requires c =
-    judged c.args.paragraph_level c.args.classes.now c.args.lengths.now c.args.levels.now _ c.in-ok-check-tables.ensures
+pub reset_runs-requires : goal.reset_runs-requires
+reset_runs-requires c =
+    judged c.args.paragraph_level c.args.classes.now c.args.lengths.now c.args.levels.now _ c.in_ok-check_tables.ensures
 
-pub returns-in-err-check-tables : goal.returns-in-err-check-tables
-returns-in-err-check-tables c =
-    let p = err_from_is_err_and c.from-residual.result c.from-residual.ensures.1 in
+pub returns-in_err-check_tables : goal.returns-in_err-check_tables
+returns-in_err-check_tables c =
+    let p = err_from_is_err_and c.from_residual.result c.from_residual.ensures.1 in
     rw (p.1, p.2)
     record {
-      verdict = c.in-err-check-tables.ensures;
+      verdict = c.in_err-check_tables.ensures;
       grounds =
-          judged c.args.paragraph_level c.args.classes.now c.args.lengths.now c.args.levels.now _ c.in-err-check-tables.ensures;
+          judged c.args.paragraph_level c.args.classes.now c.args.lengths.now c.args.levels.now _ c.in_err-check_tables.ensures;
       after = refl;
       rule = tt;
     }

@@ -6,8 +6,8 @@ use Rattle.levels.specs.Runs.{start_of}
 use Rattle.levels.proofs.Scanning.{within, open_start, turned, started, ended_open, ended_shut}
 use Rattle.levels.proofs.scan.reset_runs.Goals as goal
 
-pub overflow-add-end : goal.overflow-add-end
-overflow-add-end c =
+pub overflow_add-end : goal.overflow_add-end
+overflow_add-end c =
     omega (arith, within c.args.lengths.now c.loop-i.i c.loop-i.at (length c.args.levels.now) (omega arith) c.loop-i.invariant.0 c.requires.filled)
 
 pub step-run-requires : goal.step-run-requires
@@ -41,7 +41,7 @@ returns-in-Open c =
     ∙ ended_open c.args.paragraph_level c.loop-i.i c.loop-i.at c.loop-i.run c.args.classes.now c.args.lengths.now c.loop-i.levels _ c.in-Open.is c.loop-i-test.false
     ∙ c.loop-i.invariant.2
 
-pub returns-in-default : goal.returns-in-default
-returns-in-default c =
-    ended_shut c.args.paragraph_level c.loop-i.i c.loop-i.at c.loop-i.run c.args.classes.now c.args.lengths.now c.loop-i.levels c.in-default.is c.loop-i-test.false
+pub returns-in_default : goal.returns-in_default
+returns-in_default c =
+    ended_shut c.args.paragraph_level c.loop-i.i c.loop-i.at c.loop-i.run c.args.classes.now c.args.lengths.now c.loop-i.levels c.in_default.is c.loop-i-test.false
     ∙ c.loop-i.invariant.2

@@ -7,8 +7,8 @@ pub returns-then-length-lt1 : goal.returns-then-length-lt1
 returns-then-length-lt1 c =
     length_wrong _ _ _ c.loop-length.invariant.1 c.loop-length.invariant.2 c.loop-length-test.true (grind (arith, nat_tests))
 
-pub returns-then-total-gt-LONGEST-LINE : goal.returns-then-total-gt-LONGEST-LINE
-returns-then-total-gt-LONGEST-LINE c =
+pub returns-then-total-gt-LONGEST_LINE : goal.returns-then-total-gt-LONGEST_LINE
+returns-then-total-gt-LONGEST_LINE c =
     bytes_too_many _ _ _ c.loop-length.invariant.1 c.loop-length.invariant.2 c.loop-length-test.true (omega arith)
 
 pub loop-length-preserved : goal.loop-length-preserved

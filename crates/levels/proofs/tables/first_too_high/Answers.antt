@@ -4,8 +4,8 @@ use Rattle.levels.proofs.Rows.{row_passed, row_failed, rows_done}
 use Rattle.levels.specs.Refusals.{lawful}
 use Rattle.levels.proofs.tables.first_too_high.Goals as goal
 
-pub returns-then-level-gt-HIGHEST-LEVEL : goal.returns-then-level-gt-HIGHEST-LEVEL
-returns-then-level-gt-HIGHEST-LEVEL c =
+pub returns-then-level-gt-HIGHEST_LEVEL : goal.returns-then-level-gt-HIGHEST_LEVEL
+returns-then-level-gt-HIGHEST_LEVEL c =
     row_failed lawful _ _ _ c.loop-row.invariant c.loop-row-test.true (lt-leb _ _ (omega arith))
 
 pub loop-row-preserved : goal.loop-row-preserved

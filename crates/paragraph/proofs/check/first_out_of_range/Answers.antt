@@ -12,7 +12,7 @@ returns-then-not-in-range c =
 
 pub loop-i-preserved : goal.loop-i-preserved
 loop-i-preserved c =
-    sym (failing_on _ _ _ c.loop-i-test.true c.index-glyphs-i.is glyph_in c.if-not-in-range.ensures)
+    sym (failing_on _ _ _ c.loop-i-test.true c.index-glyphs-i.is glyph_in c.if-not-in_range.ensures)
     ∙ c.loop-i.invariant
 
 pub returns : goal.returns

@@ -15,8 +15,8 @@ loop-k-init g c =
       c.number_places.ensures ∙ ap (range_with_len 0) c.requires ∙ sym (rounds_none levels (range_with_len 0 (length c.args.elements.now)) top (top - top) (omega arith)),
     )
 
-pub reverse-runs-requires : goal.reverse-runs-requires
-reverse-runs-requires g c =
+pub reverse_runs-requires : goal.reverse_runs-requires
+reverse_runs-requires g c =
     let levels = map g.E.Leveled.depth c.args.elements.now in
     let top = c.from-top.result + 1 in
     let k = c.loop-k.k in

@@ -37,13 +37,13 @@ overflow-sub-in-word c =
 pub behind-place-requires : goal.behind-place-requires
 behind-place-requires c =
     let t = lent c.args.self in
-    let w = its_word_read t c.requires.sound c.args.s c.args.glyph c.span-at-span.result c.word-around-index.result
-    c.span-at-span.ensures c.word-around-index.ensures c.requires.low c.requires.high in
+    let w = its_word_read t c.requires.sound c.args.s c.args.glyph c.span_at-span.result c.word_around-index.result
+    c.span_at-span.ensures c.word_around-index.ensures c.requires.low c.requires.high in
     record {
       word = omega (
         arith,
-        w.in-span,
-        ap (λ (s : Span). s.offset + s.len) c.span-at-span.ensures,
+        w.in_span,
+        ap (λ (s : Span). s.offset + s.len) c.span_at-span.ensures,
         span_ends_within t c.requires.sound c.args.s,
         c.requires.sound.few_words,
       );

@@ -28,8 +28,8 @@ pub returns-then-rank-self : goal.returns-then-rank-self
 returns-then-rank-self c =
     let t = lent c.args.self in
     let r = c.args.rank in
-    let e = is_before t c.requires r c.span-around-s.result c.glyph-with-rank.result c.before_glyph.result
-    c.if-rank-self.true c.span-around-s.ensures c.glyph-with-rank.ensures c.before_glyph.ensures in
+    let e = is_before t c.requires r c.span_around-s.result c.glyph_with_rank.result c.before_glyph.result
+    c.if-rank-self.true c.span_around-s.ensures c.glyph_with_rank.ensures c.before_glyph.ensures in
     record { exact = e; before = subst (JustBefore t r) (sym e) (just_before t c.requires r) }
 
 pub returns-else-rank-self : goal.returns-else-rank-self

@@ -11,7 +11,7 @@ boundary-at-requires c =
     let r = room (lent c.args.self) c.requires.sound c.args.position c.requires.there in
     record {
       sound = c.requires.sound;
-      word = omega (arith, ap (λ (s : Span). s.offset) c.span-at-span.ensures, r.word);
+      word = omega (arith, ap (λ (s : Span). s.offset) c.span_at-span.ensures, r.word);
       glyph = r.glyph;
     }
 

@@ -10,4 +10,4 @@ returns-then-at-start-of c =
 
 pub loop-s-preserved : goal.loop-s-preserved
 loop-s-preserved c =
-    sym (around_on (start_of (lent c.args.self)) _ _ _ c.loop-s-test.true (omega (arith, c.start-of.ensures))) ∙ c.loop-s.invariant
+    sym (around_on (start_of (lent c.args.self)) _ _ _ c.loop-s-test.true (omega (arith, c.start_of.ensures))) ∙ c.loop-s.invariant

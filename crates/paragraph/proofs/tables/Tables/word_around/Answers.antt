@@ -14,5 +14,5 @@ returns-then-glyph-word-at c =
 pub loop-w-preserved : goal.loop-w-preserved
 loop-w-preserved c =
     sym (around_on (word_begins (lent c.args.self) c.args.span) c.args.glyph c.loop-w.w c.args.span.len c.loop-w-test.true
-    (omega (arith, ap (λ (w : Word). w.offset) c.word-at.ensures)))
+    (omega (arith, ap (λ (w : Word). w.offset) c.word_at.ensures)))
     ∙ c.loop-w.invariant
