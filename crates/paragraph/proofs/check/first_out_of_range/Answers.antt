@@ -5,9 +5,9 @@ use Rattle.paragraph.specs.Pieces.{first_failing}
 use Rattle.paragraph.proofs.Rows.{failing_on, failing_here}
 use Rattle.paragraph.proofs.check.first_out_of_range.Goals as goal
 
-pub returns-then-not-in-range : goal.returns-then-not-in-range
-returns-then-not-in-range c =
-    sym (failing_here _ _ _ c.loop-i-test.true c.index-glyphs-i.is glyph_in c.if-not-in-range.ensures)
+pub returns-then-not-in_range : goal.returns-then-not-in_range
+returns-then-not-in_range c =
+    sym (failing_here _ _ _ c.loop-i-test.true c.index-glyphs-i.is glyph_in c.if-not-in_range.ensures)
     ∙ c.loop-i.invariant
 
 pub loop-i-preserved : goal.loop-i-preserved

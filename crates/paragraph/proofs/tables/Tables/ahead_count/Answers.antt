@@ -4,8 +4,8 @@ use Rattle.paragraph.specs.Reading.{ahead}
 use Rattle.paragraph.proofs.Ranking.{rank_within, length_ahead}
 use Rattle.paragraph.proofs.tables.Tables.ahead_count.Goals as goal
 
-pub overflow-sub-result : goal.overflow-sub-result
-overflow-sub-result c =
+pub overflow_sub-result : goal.overflow_sub-result
+overflow_sub-result c =
     omega (arith, c.rank.ensures, rank_within (lent c.args.self) c.requires c.args.position (sym c.if-not-exists.ensures))
 
 pub returns : goal.returns

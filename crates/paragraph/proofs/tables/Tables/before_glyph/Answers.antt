@@ -6,33 +6,33 @@ use Rattle.paragraph.proofs.Growth.{span_ends_within, starts_within}
 use Rattle.paragraph.proofs.Befores.{its_word_read}
 use Rattle.paragraph.proofs.tables.Tables.before_glyph.Goals as goal
 
-pub word-around-index-requires : goal.word-around-index-requires
-word-around-index-requires c =
+pub word_around-index-requires : goal.word_around-index-requires
+word_around-index-requires c =
     omega (
       arith,
-      ap (λ (s : Span). s.offset + s.len) c.span-at-span.ensures,
+      ap (λ (s : Span). s.offset + s.len) c.span_at-span.ensures,
       span_ends_within (lent c.args.self) c.requires.sound c.args.s,
       c.requires.sound.few_words,
     )
 
-pub overflow-add-span : goal.overflow-add-span
-overflow-add-span c =
+pub overflow_add-span : goal.overflow_add-span
+overflow_add-span c =
     let t = lent c.args.self in
-    let w = its_word_read t c.requires.sound c.args.s c.args.glyph c.span-at-span.result c.word-around-index.result
-    c.span-at-span.ensures c.word-around-index.ensures c.requires.low c.requires.high in
+    let w = its_word_read t c.requires.sound c.args.s c.args.glyph c.span_at-span.result c.word_around-index.result
+    c.span_at-span.ensures c.word_around-index.ensures c.requires.low c.requires.high in
     omega (
       arith,
-      w.in-span,
-      ap (λ (s : Span). s.offset + s.len) c.span-at-span.ensures,
+      w.in_span,
+      ap (λ (s : Span). s.offset + s.len) c.span_at-span.ensures,
       span_ends_within t c.requires.sound c.args.s,
       c.requires.sound.few_words,
     )
 
-pub overflow-sub-in-word : goal.overflow-sub-in-word
-overflow-sub-in-word c =
-    let w = its_word_read (lent c.args.self) c.requires.sound c.args.s c.args.glyph c.span-at-span.result c.word-around-index.result
-    c.span-at-span.ensures c.word-around-index.ensures c.requires.low c.requires.high in
-    omega (arith, w.low, ap (λ (w : Word). w.offset) c.word-at-word.ensures)
+pub overflow_sub-in_word : goal.overflow_sub-in_word
+overflow_sub-in_word c =
+    let w = its_word_read (lent c.args.self) c.requires.sound c.args.s c.args.glyph c.span_at-span.result c.word_around-index.result
+    c.span_at-span.ensures c.word_around-index.ensures c.requires.low c.requires.high in
+    omega (arith, w.low, ap (λ (w : Word). w.offset) c.word_at-word.ensures)
 
 pub behind-place-requires : goal.behind-place-requires
 behind-place-requires c =

@@ -4,8 +4,8 @@ use Rattle.paragraph.specs.Lent.{lent}
 use Rattle.paragraph.proofs.Growth.{span_ends_within}
 use Rattle.paragraph.proofs.tables.Tables.exists.Goals as goal
 
-pub place-in-requires : goal.place-in-requires
-place-in-requires c =
+pub place_in-requires : goal.place_in-requires
+place_in-requires c =
     omega (
       arith,
       ap (λ (s : Span). s.offset + s.len) c.span_at.ensures,

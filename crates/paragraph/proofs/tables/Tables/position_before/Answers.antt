@@ -6,22 +6,22 @@ use Rattle.paragraph.proofs.Around.{Around}
 use Rattle.paragraph.proofs.Befores.{just_before, span_found, mirror_in, is_before, is_end}
 use Rattle.paragraph.proofs.tables.Tables.position_before.Goals as goal
 
-pub glyph-with-rank-requires : goal.glyph-with-rank-requires
-glyph-with-rank-requires c =
+pub glyph_with_rank-requires : goal.glyph_with_rank-requires
+glyph_with_rank-requires c =
     let t = lent c.args.self in
-    let f = subst (Around (start_of t) c.args.rank 0 (length t.spans)) (sym c.span-around-s.ensures) (span_found t c.requires c.args.rank c.if-rank-self.true) in
+    let f = subst (Around (start_of t) c.args.rank 0 (length t.spans)) (sym c.span_around-s.ensures) (span_found t c.requires c.args.rank c.if-rank-self.true) in
     record { sound = c.requires; span = omega (arith, f.in_rows, c.requires.few_spans); low = f.low; high = f.high }
 
-pub before-glyph-requires : goal.before-glyph-requires
-before-glyph-requires c =
+pub before_glyph-requires : goal.before_glyph-requires
+before_glyph-requires c =
     let t = lent c.args.self in
-    let s = c.span-around-s.result in
-    let f = subst (Around (start_of t) c.args.rank 0 (length t.spans)) (sym c.span-around-s.ensures) (span_found t c.requires c.args.rank c.if-rank-self.true) in
+    let s = c.span_around-s.result in
+    let f = subst (Around (start_of t) c.args.rank 0 (length t.spans)) (sym c.span_around-s.ensures) (span_found t c.requires c.args.rank c.if-rank-self.true) in
     let m = mirror_in t c.requires (is_congruent t s) (start_of t s) c.args.rank (start_of t (s + 1)) f.low f.high in
     record {
       sound = c.requires;
-      low = subst (λ i. start_of t s ≤ i) (sym c.glyph-with-rank.ensures) m.0;
-      high = subst (λ i. i < start_of t (s + 1)) (sym c.glyph-with-rank.ensures) m.1;
+      low = subst (λ i. start_of t s ≤ i) (sym c.glyph_with_rank.ensures) m.0;
+      high = subst (λ i. i < start_of t (s + 1)) (sym c.glyph_with_rank.ensures) m.1;
     }
 
 pub returns-then-rank-self : goal.returns-then-rank-self

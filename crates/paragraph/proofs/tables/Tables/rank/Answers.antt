@@ -15,26 +15,26 @@ boundary-at-requires c =
       glyph = r.glyph;
     }
 
-pub overflow-add-result : goal.overflow-add-result
-overflow-add-result c =
+pub overflow_add-result : goal.overflow_add-result
+overflow_add-result c =
     let t = lent c.args.self in
     omega (
       arith,
-      c.start-of.ensures,
-      c.start-of-else-is-congruent.ensures,
+      c.start_of.ensures,
+      c.start_of-else-is_congruent.ensures,
       starts_within t c.requires.sound c.args.position.span,
       starts_within t c.requires.sound (c.args.position.span + 1),
       c.requires.sound.few_glyphs,
     )
 
-pub overflow-sub-result : goal.overflow-sub-result
-overflow-sub-result c =
+pub overflow_sub-result : goal.overflow_sub-result
+overflow_sub-result c =
     let t = lent c.args.self in
     let r = room t c.requires.sound c.args.position c.requires.there in
     omega (
       arith,
-      c.start-of.ensures,
-      c.start-of-else-is-congruent.ensures,
+      c.start_of.ensures,
+      c.start_of-else-is_congruent.ensures,
       r.high,
-      c.boundary-at.ensures ∙ ap (λ s. boundary t s c.args.position.place) c.span-at-span.ensures,
+      c.boundary-at.ensures ∙ ap (λ s. boundary t s c.args.position.place) c.span_at-span.ensures,
     )

@@ -5,10 +5,10 @@ use Rattle.paragraph.specs.Lent.{lent}
 use Rattle.paragraph.proofs.Around.{around_here, around_on}
 use Rattle.paragraph.proofs.tables.Tables.word_around.Goals as goal
 
-pub returns-then-glyph-word-at : goal.returns-then-glyph-word-at
-returns-then-glyph-word-at c =
+pub returns-then-glyph-word_at : goal.returns-then-glyph-word_at
+returns-then-glyph-word_at c =
     sym (around_here (word_begins (lent c.args.self) c.args.span) c.args.glyph c.loop-w.w c.args.span.len c.loop-w-test.true
-    (omega (arith, ap (λ (w : Word). w.offset) c.word-at.ensures)))
+    (omega (arith, ap (λ (w : Word). w.offset) c.word_at.ensures)))
     ∙ c.loop-w.invariant
 
 pub loop-w-preserved : goal.loop-w-preserved
