@@ -6,4 +6,4 @@ use Rattle.layout.proofs.elided.glyphs_before.Goals as goal
 pub returns : goal.returns
 returns c =
     c.min.ensures
-    ∙ before_place (lent c.args.tables) c.args.span c.args.place c.word-or-end-word.result c.saturating-add.result c.saturating-add-2.result (omega arith) (omega arith) c.saturating-add.ensures c.word-or-end-word.ensures c.saturating-add-2.ensures
+    ∙ before_place (lent c.args.tables) c.args.span c.args.place c.word_or_end-word.result c.saturating_add.result c.saturating_add-2.result (omega arith) (omega arith) c.saturating_add.ensures c.word_or_end-word.ensures c.saturating_add-2.ensures

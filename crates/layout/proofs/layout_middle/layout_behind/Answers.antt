@@ -8,7 +8,7 @@ returns g c =
     let xs = c.args.ranges.now in
     let a = c.args.n + 1 in
     record {
-      told = c.layout-spans.ensures.told;
-      few = c.layout-spans.ensures.few;
-      written = behind_is xs c.layout-spans.new.ranges _ a c.layout-spans.result.ranges (c.layout-spans.ensures.written (omega (arith, c.requires.room, ap length (take_rest xs a), length-drop a xs)));
+      told = c.layout_spans.ensures.told;
+      few = c.layout_spans.ensures.few;
+      written = behind_is xs c.layout_spans.new.ranges _ a c.layout_spans.result.ranges (c.layout_spans.ensures.written (omega (arith, c.requires.room, ap length (take_rest xs a), length-drop a xs)));
     }

@@ -12,28 +12,28 @@ use Rattle.layout.proofs.Lists.{front_is, rest_further}
 use Rattle.layout.proofs.Middles.{half_is, middle_plain, middle_parted, parted_long}
 use Rattle.layout.proofs.layout_middle.layout_middle.Goals as goal
 
-pub layout-halves-requires : goal.layout-halves-requires
-layout-halves-requires g c =
+pub layout_halves-requires : goal.layout_halves-requires
+layout_halves-requires g c =
     let is = half_is g.M.Measure c.args.m.now (lent c.args.tables) c.args.position c.args.width c.args.ellipsis c.half.result c.zero.result c.half.ensures c.zero.ensures in
     let first = lay g.M.Measure c.args.m.now (lent c.args.tables) c.args.position (Closing c.half.result c.zero.result) Forward in
-    let wr = c.layout-spans-first.ensures.written (omega (arith, c.requires.room)) in
+    let wr = c.layout_spans-first.ensures.written (omega (arith, c.requires.room)) in
     record {
       sound = c.requires.sound;
       stands = c.requires.stands;
-      room = omega (arith, c.requires.room, c.layout-spans-first.ensures.length);
-      told = c.layout-spans-first.ensures.told ∙ ap told is;
-      few = omega (arith, c.layout-spans-first.ensures.few);
-      front = front_is first.ranges c.args.ranges.now c.layout-spans-first.new.ranges c.layout-spans-first.result.ranges (ranges_is first c.layout-spans-first.result c.layout-spans-first.ensures.told) wr ∙ ap (λ (l : Lay _). l.ranges) is;
+      room = omega (arith, c.requires.room, c.layout_spans-first.ensures.length);
+      told = c.layout_spans-first.ensures.told ∙ ap told is;
+      few = omega (arith, c.layout_spans-first.ensures.few);
+      front = front_is first.ranges c.args.ranges.now c.layout_spans-first.new.ranges c.layout_spans-first.result.ranges (ranges_is first c.layout_spans-first.result c.layout_spans-first.ensures.told) wr ∙ ap (λ (l : Lay _). l.ranges) is;
     }
 
 pub returns-then-not-first : goal.returns-then-not-first
 returns-then-not-first g c =
     let is = half_is g.M.Measure c.args.m.now (lent c.args.tables) c.args.position c.args.width c.args.ellipsis c.half.result c.zero.result c.half.ensures c.zero.ensures in
     let half = first_half g.M.Measure c.args.m.now (lent c.args.tables) c.args.position c.args.width in
-    let told_is = c.layout-spans-first.ensures.told ∙ ap told is in
-    let wr = c.layout-spans-first.ensures.written (omega (arith, c.requires.room)) ∙ ap (λ (l : Lay _). l.ranges ++ drop c.layout-spans-first.result.ranges c.args.ranges.now) is in
-    let line_is = middle_plain g.M.Measure c.args.m.now (lent c.args.tables) c.args.position c.args.width c.args.ellipsis c.if-end-fits.ensures (flagged_is half c.layout-spans-first.result told_is _ c.if-not-first.true) in
-    let both = plain_line (lent c.args.tables) c.args.none-before half c.layout-spans-first.result c.plain-then-not-first.result c.args.ranges.now c.layout-spans-first.new.ranges told_is c.plain-then-not-first.ensures wr in
+    let told_is = c.layout_spans-first.ensures.told ∙ ap told is in
+    let wr = c.layout_spans-first.ensures.written (omega (arith, c.requires.room)) ∙ ap (λ (l : Lay _). l.ranges ++ drop c.layout_spans-first.result.ranges c.args.ranges.now) is in
+    let line_is = middle_plain g.M.Measure c.args.m.now (lent c.args.tables) c.args.position c.args.width c.args.ellipsis c.if-end_fits.ensures (flagged_is half c.layout_spans-first.result told_is _ c.if-not-first.true) in
+    let both = plain_line (lent c.args.tables) c.args.none-before half c.layout_spans-first.result c.plain-then-not-first.result c.args.ranges.now c.layout_spans-first.new.ranges told_is c.plain-then-not-first.ensures wr in
     record {
       told = both.0 ∙ ap (line_told (lent c.args.tables) c.args.none-before) (sym line_is);
       written = both.1 ∙ ap (λ (l : Line _). line_ranges l ++ drop c.plain-then-not-first.result.ranges c.args.ranges.now) (sym line_is);
@@ -43,16 +43,16 @@ pub returns : goal.returns
 returns g c =
     let is = half_is g.M.Measure c.args.m.now (lent c.args.tables) c.args.position c.args.width c.args.ellipsis c.half.result c.zero.result c.half.ensures c.zero.ensures in
     let half = first_half g.M.Measure c.args.m.now (lent c.args.tables) c.args.position c.args.width in
-    let told_is = c.layout-spans-first.ensures.told ∙ ap told is in
-    let wr = c.layout-spans-first.ensures.written (omega (arith, c.requires.room)) ∙ ap (λ (l : Lay _). l.ranges ++ drop c.layout-spans-first.result.ranges c.args.ranges.now) is in
-    let line_is = middle_parted g.M.Measure c.args.m.now (lent c.args.tables) c.args.position c.args.width c.args.ellipsis c.if-end-fits.ensures (flagged_is half c.layout-spans-first.result told_is _ c.if-not-first.false) in
+    let told_is = c.layout_spans-first.ensures.told ∙ ap told is in
+    let wr = c.layout_spans-first.ensures.written (omega (arith, c.requires.room)) ∙ ap (λ (l : Lay _). l.ranges ++ drop c.layout_spans-first.result.ranges c.args.ranges.now) is in
+    let line_is = middle_parted g.M.Measure c.args.m.now (lent c.args.tables) c.args.position c.args.width c.args.ellipsis c.if-end_fits.ensures (flagged_is half c.layout_spans-first.result told_is _ c.if-not-first.false) in
     let line = parted_line g.M.Measure c.args.m.now (lent c.args.tables) c.args.position c.args.width c.args.ellipsis in
-    let n_is = ranges_is half c.layout-spans-first.result told_is in
+    let n_is = ranges_is half c.layout_spans-first.result told_is in
     let long = parted_long g.M.Measure c.args.m.now (lent c.args.tables) c.args.position c.args.width c.args.ellipsis in
-    let count = ap (λ (r : VisualLine _). r.ranges) c.layout-halves.ensures.told in
-    let rest = rest_further half.ranges c.args.ranges.now c.layout-spans-first.new.ranges c.layout-spans-first.result.ranges c.layout-halves.result.ranges n_is wr (omega (arith, n_is, long, count)) in
+    let count = ap (λ (r : VisualLine _). r.ranges) c.layout_halves.ensures.told in
+    let rest = rest_further half.ranges c.args.ranges.now c.layout_spans-first.new.ranges c.layout_spans-first.result.ranges c.layout_halves.result.ranges n_is wr (omega (arith, n_is, long, count)) in
     record {
-      told = c.layout-halves.ensures.told ∙ ap (line_told (lent c.args.tables) c.args.none-before) (sym line_is);
+      told = c.layout_halves.ensures.told ∙ ap (line_told (lent c.args.tables) c.args.none-before) (sym line_is);
       written =
-          c.layout-halves.ensures.written ∙ ap (λ (rs : List VlRange). line_ranges line ++ rs) rest ∙ ap (λ (l : Line _). line_ranges l ++ drop c.layout-halves.result.ranges c.args.ranges.now) (sym line_is);
+          c.layout_halves.ensures.written ∙ ap (λ (rs : List VlRange). line_ranges line ++ rs) rest ∙ ap (λ (l : Line _). line_ranges l ++ drop c.layout_halves.result.ranges c.args.ranges.now) (sym line_is);
     }

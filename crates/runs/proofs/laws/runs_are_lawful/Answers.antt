@@ -6,7 +6,7 @@ pub returns : goal.returns
 returns g c =
     let k = g.M.Measure in
     let m = c.args.m.now in
-    let laws = c.order-laws.ensures in
+    let laws = c.order_laws.ensures in
     record {
       start = every_start g.row.M-Width.Denot;
       step = every_step k m laws.pairs laws.once;

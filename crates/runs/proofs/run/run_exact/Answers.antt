@@ -11,5 +11,5 @@ returns g c =
       lawful = told.lawful;
       measured =
           measured g.M.Measure g.M.ExactMeasure.number (g.M.ExactMeasure.number_of_glyph a.on.measure) a.on a.range-places a.order-places a.script.now
-          c.runs-are-exact.ensures.run c.run.result told.tables told.exact;
+          c.runs_are_exact.ensures.run c.run.result told.tables told.exact;
     }

@@ -3,17 +3,17 @@ use Rattle.strip_text.proofs.Decimals.{read_back, written_so, no_leading_zero, s
 use Rattle.strip_text.proofs.numbers.read_number.Goals as goal
 use Rattle.strip_text.proofs.numbers.read_number.Goals.{else-bytes-gt1-via-then-bytes-gt1+else-bytes-le48, else-bytes-gt1-via-else-bytes-gt1}
 
-pub returns-in-default : goal.returns-in-default
-returns-in-default c = λ n small is. c.in-default.not-Ok n (read_back c.args.field.now _ c.parse.ensures.value.0 n (omega arith) is)
+pub returns-in_default : goal.returns-in_default
+returns-in_default c = λ n small is. c.in_default.not-Ok n (read_back c.args.field.now _ c.parse.ensures.value.0 n (omega arith) is)
 
 pub returns-then-number-most : goal.returns-then-number-most
 returns-then-number-most c = λ n small is. omega (arith, c.if-number-most.true, same_number _ _ _ c.in-Ok.is (read_back c.args.field.now _ c.parse.ensures.value.0 n (omega arith) is))
 
 pub returns-then-bytes-le48 : goal.returns-then-bytes-le48
-returns-then-bytes-le48 c = λ n small is. omega (arith, c.if-bytes-le48.true, no_leading_zero c.as-bytes-bytes.result.now n (omega arith) (c.as-bytes-bytes.ensures.value ∙ is) c.if-bytes-gt1.true)
+returns-then-bytes-le48 c = λ n small is. omega (arith, c.if-bytes-le48.true, no_leading_zero c.as_bytes-bytes.result.now n (omega arith) (c.as_bytes-bytes.ensures.value ∙ is) c.if-bytes-gt1.true)
 
 pub returns : goal.returns
 returns c =
     let Plain : List ℕ → Type 0 = λ t. 1 < length t → 48 < get_or t 0 0 in
-    let plain : Plain c.as-bytes-bytes.result.now = λ long. elim c.else-bytes-gt1.branch [ else-bytes-gt1-via-then-bytes-gt1+else-bytes-le48 w ↦ w.if-bytes-le48.false | else-bytes-gt1-via-else-bytes-gt1 w ↦ absurd (omega (arith, w.if-bytes-gt1.false)) ] in
-    (c.if-number-most.false, written_so c.args.field.now _ c.parse.ensures.value.0 _ c.in-Ok.is (subst Plain c.as-bytes-bytes.ensures.value plain))
+    let plain : Plain c.as_bytes-bytes.result.now = λ long. elim c.else-bytes-gt1.branch [ else-bytes-gt1-via-then-bytes-gt1+else-bytes-le48 w ↦ w.if-bytes-le48.false | else-bytes-gt1-via-else-bytes-gt1 w ↦ absurd (omega (arith, w.if-bytes-gt1.false)) ] in
+    (c.if-number-most.false, written_so c.args.field.now _ c.parse.ensures.value.0 _ c.in-Ok.is (subst Plain c.as_bytes-bytes.ensures.value plain))

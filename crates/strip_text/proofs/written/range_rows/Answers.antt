@@ -8,8 +8,8 @@ use Rattle.strip_text.proofs.written.range_rows.Goals as goal
 
 pub loop-i-preserved : goal.loop-i-preserved
 loop-i-preserved c =
-    c.in-ok-push-str.ensures.bytes
-    ∙ ap₂ ◌++◌ c.loop-i.invariant (c.as-str.ensures.value ∙ c.in-ok-row.ensures)
+    c.in_ok-push_str.ensures.bytes
+    ∙ ap₂ ◌++◌ c.loop-i.invariant (c.as_str.ensures.value ∙ c.in_ok-row.ensures)
     ∙ sym (joined_one_more (range_row (lent c.args.tables)) c.args.ranges.now c.loop-i.i _ c.loop-i-test.true)
 
 pub returns : goal.returns

@@ -7,8 +7,8 @@ use Rattle.strip_text.proofs.written.spaced_numbers.Goals as goal
 
 pub loop-i-preserved : goal.loop-i-preserved
 loop-i-preserved c =
-    c.in-ok-push-str.ensures.bytes
-    ∙ ap₂ ◌++◌ c.loop-i.invariant (c.as-str.ensures.value ∙ c.in-ok-word.ensures.ok)
+    c.in_ok-push_str.ensures.bytes
+    ∙ ap₂ ◌++◌ c.loop-i.invariant (c.as_str.ensures.value ∙ c.in_ok-word.ensures.ok)
     ∙ sym (joined_one_more spaced c.args.numbers.now c.loop-i.i 0 c.loop-i-test.true)
 
 pub returns : goal.returns

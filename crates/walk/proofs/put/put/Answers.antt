@@ -10,10 +10,10 @@ returns c =
     let n = c.args.count in
     let r = c.args.range in
     let out = c.args.ranges.now in
-    let differ : same_place r.start r.end ≡ false = sym c.if-is-same.ensures in
+    let differ : same_place r.start r.end ≡ false = sym c.if-is_same.ensures in
     let list : c.if-count-ranges.ranges ≡ set out n r =
     elim c.if-count-ranges.branch [
-      | then-count-ranges w ↦ w.ranges_is
-      | else-count-ranges w ↦ w.ranges_is ∙ sym (set_past out n r w.if-count-ranges.false)
+      | then-count-ranges w ↦ w.ranges-is
+      | else-count-ranges w ↦ w.ranges-is ∙ sym (set_past out n r w.if-count-ranges.false)
     ] in
     record { count = sym (cond-false (same_place r.start r.end) n (n + 1) differ); list = list ∙ sym (cond-false (same_place r.start r.end) out (set out n r) differ) }

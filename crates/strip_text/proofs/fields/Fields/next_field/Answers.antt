@@ -7,9 +7,9 @@ use Rattle.strip_text.proofs.fields.Fields.next_field.Goals as goal
 pub returns-in-Some : goal.returns-in-Some
 returns-in-Some c =
     let P : Option (Bor (List ℕ)) → Type 0 = λ held. FirstField (option_map (λ x. x.now) held) (Some c.in-Some.field.now) (Some c.in-Some.rest.now) in
-    subst P (sym c.in-ok-left.was) (split_parts 32 c.in-ok-left.left.now (Some (c.in-Some.field, c.in-Some.rest)) c.in-Some.ensures.cases (lit< tt))
+    subst P (sym c.in_ok-left.was) (split_parts 32 c.in_ok-left.left.now (Some (c.in-Some.field, c.in-Some.rest)) c.in-Some.ensures.cases (lit< tt))
 
 pub returns-in-None : goal.returns-in-None
 returns-in-None c =
-    let P : Option (Bor (List ℕ)) → Type 0 = λ held. FirstField (option_map (λ x. x.now) held) (Some c.in-ok-left.left.now) None in
-    subst P (sym c.in-ok-left.was) (refl, split_parts 32 c.in-ok-left.left.now None c.in-None.ensures.cases (lit< tt))
+    let P : Option (Bor (List ℕ)) → Type 0 = λ held. FirstField (option_map (λ x. x.now) held) (Some c.in_ok-left.left.now) None in
+    subst P (sym c.in_ok-left.was) (refl, split_parts 32 c.in_ok-left.left.now None c.in-None.ensures.cases (lit< tt))
