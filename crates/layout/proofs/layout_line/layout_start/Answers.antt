@@ -9,7 +9,7 @@ returns g c =
     let wr = c.layout_spans-walked.ensures.written (omega (arith, c.requires.room)) in
     let lv = c.ellipsis_level_between-level.ensures ∙ ap (λ b. level_between c.args.tables.direction None b) c.first_range-after.ensures in
     let both =
-    start_marked g.M.Measure c.args.m.now (lent c.args.tables) c.args.position c.args.width c.args.ellipsis c.args.none-before
+    start_marked g.M.Measure c.args.m.now (lent c.args.tables) c.args.position c.args.width c.args.ellipsis c.args.none_before
     c.layout_spans-walked.result c.args.ranges.now c.layout_spans-walked.new.ranges c.if-not-walked.false (omega (arith, c.layout_spans-walked.ensures.few, c.requires.room))
     c.ellipsis_level_between-level.result c.sum.result c.sum.ensures c.elided_bytes-elided.result c.layout_spans-walked.ensures.told wr lv c.elided_bytes-elided.ensures
     c.ellipsis_range.result c.ellipsis_range.ensures c.put_first.new.ranges c.put_first.ensures in

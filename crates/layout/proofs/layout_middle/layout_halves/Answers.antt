@@ -31,14 +31,14 @@ join_halves-requires g c =
 
 pub returns-in_default : goal.returns-in_default
 returns-in_default g c =
-    let both = parted_alone g.M.Measure c.args.m.now (lent c.args.tables) c.args.position c.args.width c.args.ellipsis c.args.none-before c.args.ranges.now c.ellipsis_alone.new.ranges c.ellipsis_alone.result
+    let both = parted_alone g.M.Measure c.args.m.now (lent c.args.tables) c.args.position c.args.width c.args.ellipsis c.args.none_before c.args.ranges.now c.ellipsis_alone.new.ranges c.ellipsis_alone.result
     (sym (c.in_default.ensures ∙ ap last_of c.requires.front)) (omega (arith, c.requires.room)) c.ellipsis_alone.ensures.told c.ellipsis_alone.ensures.written in
     record { told = both.0; written = both.1 }
 
 pub returns : goal.returns
 returns g c =
     let left_is = c.difference-2.ensures ∙ ap (λ x. g.M.Measure.difference_of c.args.m.now x c.args.ellipsis) c.difference.ensures in
-    let both = parted g.M.Measure c.args.m.now (lent c.args.tables) c.args.position c.args.width c.args.ellipsis c.args.none-before c.args.first c.layout_behind-second.result c.args.ranges.now c.layout_behind-second.new.ranges
+    let both = parted g.M.Measure c.args.m.now (lent c.args.tables) c.args.position c.args.width c.args.ellipsis c.args.none_before c.args.first c.layout_behind-second.result c.args.ranges.now c.layout_behind-second.new.ranges
     c.in-Some.last c.ends_at.result c.difference-2.result c.zero.result c.requires.told c.requires.front (omega (arith, c.requires.room, c.requires.few)) (sym (c.in-Some.ensures ∙ ap last_of c.requires.front))
     c.ends_at.ensures left_is c.zero.ensures c.layout_behind-second.ensures.told c.layout_behind-second.ensures.written c.join_halves.result c.join_halves.new.ranges c.join_halves.ensures.told c.join_halves.ensures.written in
     record { told = both.0; written = both.1 }

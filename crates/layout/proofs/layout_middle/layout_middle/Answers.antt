@@ -33,9 +33,9 @@ returns-then-not-first g c =
     let told_is = c.layout_spans-first.ensures.told ∙ ap told is in
     let wr = c.layout_spans-first.ensures.written (omega (arith, c.requires.room)) ∙ ap (λ (l : Lay _). l.ranges ++ drop c.layout_spans-first.result.ranges c.args.ranges.now) is in
     let line_is = middle_plain g.M.Measure c.args.m.now (lent c.args.tables) c.args.position c.args.width c.args.ellipsis c.if-end_fits.ensures (flagged_is half c.layout_spans-first.result told_is _ c.if-not-first.true) in
-    let both = plain_line (lent c.args.tables) c.args.none-before half c.layout_spans-first.result c.plain-then-not-first.result c.args.ranges.now c.layout_spans-first.new.ranges told_is c.plain-then-not-first.ensures wr in
+    let both = plain_line (lent c.args.tables) c.args.none_before half c.layout_spans-first.result c.plain-then-not-first.result c.args.ranges.now c.layout_spans-first.new.ranges told_is c.plain-then-not-first.ensures wr in
     record {
-      told = both.0 ∙ ap (line_told (lent c.args.tables) c.args.none-before) (sym line_is);
+      told = both.0 ∙ ap (line_told (lent c.args.tables) c.args.none_before) (sym line_is);
       written = both.1 ∙ ap (λ (l : Line _). line_ranges l ++ drop c.plain-then-not-first.result.ranges c.args.ranges.now) (sym line_is);
     }
 
@@ -52,7 +52,7 @@ returns g c =
     let count = ap (λ (r : VisualLine _). r.ranges) c.layout_halves.ensures.told in
     let rest = rest_further half.ranges c.args.ranges.now c.layout_spans-first.new.ranges c.layout_spans-first.result.ranges c.layout_halves.result.ranges n_is wr (omega (arith, n_is, long, count)) in
     record {
-      told = c.layout_halves.ensures.told ∙ ap (line_told (lent c.args.tables) c.args.none-before) (sym line_is);
+      told = c.layout_halves.ensures.told ∙ ap (line_told (lent c.args.tables) c.args.none_before) (sym line_is);
       written =
           c.layout_halves.ensures.written ∙ ap (λ (rs : List VlRange). line_ranges line ++ rs) rest ∙ ap (λ (l : Line _). line_ranges l ++ drop c.layout_halves.result.ranges c.args.ranges.now) (sym line_is);
     }
