@@ -46,8 +46,8 @@ after_take-self-requires g c =
     let may = c.in_ok-check_take.ensures.granted.0 in
     record {
       some = omega (arith, may.left_is, c.lay_taken-line.ensures.few);
-      in-text = omega (arith, may.left_is, ahead_most (text_of paragraph) (its_sound paragraph) c.args.self.now.progress.position may.stands);
-      few-lines = search rules;
+      in_text = omega (arith, may.left_is, ahead_most (text_of paragraph) (its_sound paragraph) c.args.self.now.progress.position may.stands);
+      few_lines = search rules;
       few_glyphs = search rules;
     }
 
