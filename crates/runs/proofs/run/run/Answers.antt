@@ -44,14 +44,14 @@ returns g c =
     let p = c.open.new.paragraph in
     let opened = c.in_ok-opened.opened in
     let leaves = c.in_ok-opened.ensures.leaves in
-    let rs = c.deref-mut.result.now in
-    let os = c.deref-mut-2.result.now in
-    let ranges : length rs ≡ c.args.range-places = omega (arith, ap length c.deref-mut.ensures.value, c.in_ok-ranges.ensures.len, c.in_ok-ranges.ranges.ok.0) in
-    let order : length os ≡ c.args.order-places = omega (arith, ap length c.deref-mut-2.ensures.value, c.in_ok-order.ensures.len, c.in_ok-order.order.ok.0) in
+    let rs = c.deref_mut.result.now in
+    let os = c.deref_mut-2.result.now in
+    let ranges : length rs ≡ c.args.range_places = omega (arith, ap length c.deref_mut.ensures.value, c.in_ok-ranges.ensures.len, c.in_ok-ranges.ranges.ok.0) in
+    let order : length os ≡ c.args.order_places = omega (arith, ap length c.deref_mut-2.ensures.value, c.in_ok-order.ensures.len, c.in_ok-order.order.ok.0) in
     let r = c.perform_all.result in
     record {
       tables = was_opened (text_on on) (vec_items on.ellipsis) g.row.M.Denot g.row.M-Width.Denot opened c.in_ok-opened.ensures.answer r _ c.perform_all.ensures;
-      exact = exact k on p opened leaves.0 leaves.1 rs os c.args.range-places c.args.order-places ranges order c.args.script.now r c.perform_all.ensures;
+      exact = exact k on p opened leaves.0 leaves.1 rs os c.args.range_places c.args.order_places ranges order c.args.script.now r c.perform_all.ensures;
       lawful =
-          lawful k on p opened leaves.0 leaves.1 rs os c.args.range-places c.args.order-places ranges order c.args.script.now r c.perform_all.ensures c.runs_are_lawful.ensures.run;
+          lawful k on p opened leaves.0 leaves.1 rs os c.args.range_places c.args.order_places ranges order c.args.script.now r c.perform_all.ensures c.runs_are_lawful.ensures.run;
     }

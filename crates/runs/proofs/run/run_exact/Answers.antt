@@ -10,6 +10,6 @@ returns g c =
       exact = told.exact;
       lawful = told.lawful;
       measured =
-          measured g.M.Measure g.M.ExactMeasure.number (g.M.ExactMeasure.number_of_glyph a.on.measure) a.on a.range-places a.order-places a.script.now
+          measured g.M.Measure g.M.ExactMeasure.number (g.M.ExactMeasure.number_of_glyph a.on.measure) a.on a.range_places a.order_places a.script.now
           c.runs_are_exact.ensures.run c.run.result told.tables told.exact;
     }
