@@ -1,5 +1,5 @@
 -- The float constants of the code, and the tests on them
-use Rattle.std.proofs.Common.{◌≡◌, Bool, true, false, ◌&&◌, sym, refl, ap, ◌∙◌}
+use Rattle.std.proofs.Common.{◌≡◌, Bool, ◌&&◌, sym, refl, ap, ◌∙◌}
 use lib.Ieee.{Float, binary32, of_bits, of_fields, odd, le}
 use lib.Count.{count_trailing_zeros}
 use Rattle.glyph.specs.Ranges.{float_0, float_64, float_4096, from_zero_to}

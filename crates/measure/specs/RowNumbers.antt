@@ -1,6 +1,6 @@
 -- docs/RULES.md, "Measures"
 -- What a row of glyphs means on an exact measure
-use Rattle.std.specs.Prelude.{◌≡◌, ℕ, ◌+◌, ◌^◌, ◌<◌, ◌≤◌, List, length, sum_by}
+use Rattle.std.specs.Prelude.{ℕ, ◌+◌, ◌^◌, ◌<◌, ◌≤◌, List, length, sum_by}
 use Rattle.glyph.specs.declared.glyph.Glyph.{Glyph}
 
 -- a row means the sum of what its glyphs mean

@@ -1,6 +1,6 @@
 -- docs/RULES.md, "Measures"
 -- The width of a row of glyphs
-use Rattle.std.specs.Prelude.{ℕ, List, fold}
+use Rattle.std.specs.Prelude.{List, fold}
 use Rattle.glyph.specs.declared.glyph.Glyph.{Glyph}
 use Rattle.measure.specs.declared.measure.Measure.{Ghosts}
 
