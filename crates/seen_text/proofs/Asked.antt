@@ -5,7 +5,7 @@ use Rattle.std.specs.declared.alloc.Global.{Global}
 use Rattle.seen_text.specs.Answer.{Answers, Prints}
 use Rattle.seen_text.specs.Classes.{Lawful, ReadsClasses, Resets, resets_line, resets_of}
 use Rattle.seen_text.specs.declared.class_line.ClassLine.{ClassLine}
-use Rattle.seen_text.specs.Format.{Asks, Counted, Levels, Lines, OneReading, Says}
+use Rattle.seen_text.specs.Format.{Counted, Levels, Lines, OneReading, Says}
 use Rattle.seen_text.specs.Inputs.{ReadsInput}
 use Rattle.seen_text.specs.Numbers.{spelled}
 use Rattle.seen_text.specs.Reading.{ReadsLevels}

@@ -1,5 +1,5 @@
 -- Numbers in a line, one after another
-use Rattle.std.proofs.Common.{◌≡◌, ℕ, zero, suc, ◌+◌, ◌<◌, ◌≤◌, cond, eqb, List, [], ◌∷◌, ◌++◌, length, get_or, take, Ok, Err, IsUtf8, decimal, Result, sym, refl, ap, ◌∙◌, subst, ⊎_elim, append-nil, arith, length-drop}
+use Rattle.std.proofs.Common.{◌≡◌, ℕ, zero, suc, ◌+◌, ◌<◌, ◌≤◌, eqb, List, [], ◌∷◌, ◌++◌, length, get_or, take, Ok, IsUtf8, decimal, Result, sym, ap, ◌∙◌, subst, ⊎_elim, append-nil, arith, length-drop}
 use Rattle.std.specs.Str.Parse.{AllDigits, ParsesUnsigned, digits_value}
 use Rattle.std.proofs.lemmas.Fmt.{IsAscii-decimal, decimal_digit, decimal-digits_value, first_decimal, parse-decimal}
 use Rattle.std.proofs.lemmas.Str.Parse.{IsNumeralModel, without_leading_plus_plus, numerals_by_value, parse_plain, tells_digits}

@@ -1,5 +1,5 @@
 -- What is refused, and what is granted, on the way from the rule to the text
-use Rattle.std.proofs.Common.{◌≡◌, ℕ, List, [], ◌++◌, length, get_or, Ok, Err, vec_items, string_bytes, Result, Vec, String, sym, ap, ◌∙◌, subst, ap₂}
+use Rattle.std.proofs.Common.{◌≡◌, ℕ, List, length, Ok, Err, vec_items, string_bytes, Result, Vec, String, sym, ap, ◌∙◌, subst, ap₂}
 use Rattle.std.specs.declared.alloc.Global.{Global}
 use Rattle.std.specs.Str.{chars}
 use Rattle.visual_order.specs.Verdict.{verdict}

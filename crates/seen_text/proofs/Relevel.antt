@@ -16,7 +16,7 @@ use Rattle.visual_order.specs.declared.character.Character.{Character}
 use Rattle.seen_text.specs.Answer.{Prints, class_refusal, reset_printed, seen_lines}
 use Rattle.seen_text.specs.Classes.{Resets}
 use Rattle.seen_text.specs.Format.{Counted}
-use Rattle.seen_text.specs.Resets.{ResetsByRule, ResetsLevels, byte_lengths, byte_levels, first_levels, own_levels, reset_levels, reset_verdict}
+use Rattle.seen_text.specs.Resets.{ResetsByRule, ResetsLevels, byte_lengths, byte_levels, first_levels, reset_levels, reset_verdict}
 use Rattle.seen_text.specs.Seen.{characters_of}
 use Rattle.seen_text.specs.declared.format_fault.InputFault.{InputFault}
 use Rattle.seen_text.specs.declared.format_fault.InputFault.TheVariants.{Format, Memory}

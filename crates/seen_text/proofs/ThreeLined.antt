@@ -1,7 +1,7 @@
 -- The lines of an input: two, or three
-use Rattle.std.proofs.Common.{◌≡◌, ℕ, ◌+◌, ◌-◌, ◌<◌, ◌≤◌, List, [], ◌∷◌, ◌++◌, length, get_or, take, drop, Some, None, Option, sym, refl, ap, ◌∙◌, subst, arith, length-append}
+use Rattle.std.proofs.Common.{◌≡◌, ℕ, ◌+◌, ◌-◌, ◌<◌, ◌≤◌, List, ◌∷◌, ◌++◌, length, get_or, take, drop, Some, None, Option, sym, refl, ap, ◌∙◌, subst, arith, length-append}
 use Rattle.std.proofs.lemmas.List.{get_or_at}
-use Rattle.seen_text.specs.Format.{Lacks, Lines, ThreeLines, TwoLines}
+use Rattle.seen_text.specs.Format.{Lines, ThreeLines, TwoLines}
 use Rattle.seen_text.proofs.Cuts.{same_cut}
 use Rattle.seen_text.proofs.TwoLined.{after_first, at_end, first_lacks, follows_some, parted, same_lines}
 

@@ -1,7 +1,7 @@
 -- The format of an input: line 1 is a text in UTF-8, line 2 its levels; line 3, which may be left out, asks for level resets
 use Rattle.std.specs.Prelude.{◌≡◌, ℕ, ◌<◌, ◌≤◌, ◌⊎◌, List, [], ◌∷◌, ◌++◌, length, IfSome, Some, None, IsUtf8, Option, ◌≢◌, slice_index}
 use Rattle.std.specs.Option.{option_map}
-use Rattle.std.specs.List.{AllByRecursion as All}
+use Rattle.std.specs.List.{AllByRecursion}
 use Rattle.std.specs.Str.{chars}
 use Rattle.seen_text.specs.Classes.{Lawful, Resets, resets_line}
 use Rattle.seen_text.specs.Numbers.{spelled}
@@ -18,7 +18,7 @@ pub record TwoLines (bytes first second : List ℕ) : Type 0 where
 
 -- levels are numbers up to 126
 abbrev pub Levels : List ℕ → Type 0
-Levels levels = All (λ level. level ≤ 126) levels
+Levels levels = AllByRecursion (λ level. level ≤ 126) levels
 
 -- the bytes are a line and two lines behind its line feed
 pub record ThreeLines (bytes first second third : List ℕ) : Type 0 where

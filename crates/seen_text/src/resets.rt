@@ -5,7 +5,7 @@ ghost use Rattle.levels.specs.Classes.{code_of};
 ghost use Rattle.seen_text.specs.Classes.{resets_of};
 ghost use Rattle.seen_text.specs.Resets.{byte_lengths, byte_levels, first_levels, ResetsLevels};
 ghost use Rattle.seen_text.specs.Seen.{characters_of};
-ghost use Rattle.std.specs.List.{AllByRecursion as All};
+ghost use Rattle.std.specs.List.{AllByRecursion};
 ghost use Rattle.std.specs.Str.{chars};
 
 use crate::characters::characters;
@@ -28,7 +28,7 @@ fn class_codes(heap: Global, classes: &[BidiClass]) -> Result<Vec<u8>, AllocErro
 
 // How many bytes each character has.
 fn lengths_of(heap: Global, characters: &[Character]) -> Result<Vec<u8>, AllocError>
-    requires { All (λ c. c.len ≤ 4) characters.now }
+    requires { AllByRecursion (λ c. c.len ≤ 4) characters.now }
     ensures { IfOk result (λ v. v.items ≡ byte_lengths characters.now) }
 {
     let mut lengths = Vec::new(heap);
@@ -65,7 +65,7 @@ fn levels_from_bytes(
     characters: &[Character],
     bytes: &[u8],
 ) -> Result<Vec<u8>, AllocError>
-    requires { All (λ c. c.start < length bytes.now) characters.now }
+    requires { AllByRecursion (λ c. c.start < length bytes.now) characters.now }
     ensures { IfOk result (λ v. v.items ≡ first_levels bytes.now characters.now) }
 {
     let mut levels = Vec::new(heap);

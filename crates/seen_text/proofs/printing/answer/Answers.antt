@@ -9,8 +9,8 @@ returns-in-Err c = unread _ _ c.in-Err.ensures
 
 pub returns-in-None : goal.returns-in-None
 returns-in-None c =
-    answered_at c.args.bytes.now c.in-Ok.input.text.now (vec_items c.in-Ok.input.levels) c.as-slice.result.now c.in-Ok.input.classes None c.print-seen.result c.in-Ok.ensures (ap (option_map resets_of) c.in-None.is) c.as-slice.ensures.value c.print-seen.ensures
+    answered_at c.args.bytes.now c.in-Ok.input.text.now (vec_items c.in-Ok.input.levels) c.as_slice.result.now c.in-Ok.input.classes None c.print_seen.result c.in-Ok.ensures (ap (option_map resets_of) c.in-None.is) c.as_slice.ensures.value c.print_seen.ensures
 
 pub returns : goal.returns
 returns c =
-    answered_at c.args.bytes.now c.in-Ok.input.text.now (vec_items c.in-Ok.input.levels) c.as-slice-in-Some.result.now c.in-Ok.input.classes (Some (resets_of c.in-Some.line)) c.print-reset.result c.in-Ok.ensures (ap (option_map resets_of) c.in-Some.is) c.as-slice-in-Some.ensures.value c.print-reset.ensures
+    answered_at c.args.bytes.now c.in-Ok.input.text.now (vec_items c.in-Ok.input.levels) c.as_slice-in-Some.result.now c.in-Ok.input.classes (Some (resets_of c.in-Some.line)) c.print_reset.result c.in-Ok.ensures (ap (option_map resets_of) c.in-Some.is) c.as_slice-in-Some.ensures.value c.print_reset.ensures

@@ -1,13 +1,12 @@
-use Rattle.std.proofs.Common.{◌≡◌, ℕ, ◌<◌, List, ◌++◌, map, length, get_or, take, IsUtf8, sym, ap, ◌∙◌, ap₂, arith, rules}
-use lib.Utf8.{encode}
+use Rattle.std.proofs.Common.{map, get_or, IsUtf8, ap, ◌∙◌, arith, rules}
 use Rattle.std.specs.Str.{chars}
 use Rattle.std.proofs.lemmas.List.{take_all}
 use Rattle.seen_text.specs.Seen.{level_of, seen_bytes}
-use Rattle.seen_text.proofs.Spelt.{Stands, stands, ends_within, starts_whole, ends_whole, bytes_are, seen_more}
+use Rattle.seen_text.proofs.Spelt.{stands, ends_within, starts_whole, ends_whole, bytes_are, seen_more}
 use Rattle.seen_text.proofs.seen_line.in_order.Goals as goal
 
-pub overflow-add-c : goal.overflow-add-c
-overflow-add-c c =
+pub overflow_add-c : goal.overflow_add-c
+overflow_add-c c =
     let text : IsUtf8 c.args.text.now = search rules in
     let s = stands _ (map level_of c.args.characters.now) c.args.characters.now (get_or c.args.order.now c.loop-i.i-index 0) (record { start = 0; len = 0; level = 0 }) text c.requires.spelt (c.requires.indices c.loop-i.i-index c.loop-i-test.true) in
     omega (arith, ends_within s)
@@ -16,13 +15,13 @@ pub range-requires : goal.range-requires
 range-requires c =
     let text : IsUtf8 c.args.text.now = search rules in
     let s = stands _ (map level_of c.args.characters.now) c.args.characters.now (get_or c.args.order.now c.loop-i.i-index 0) (record { start = 0; len = 0; level = 0 }) text c.requires.spelt (c.requires.indices c.loop-i.i-index c.loop-i-test.true) in
-    record { start-le-end = omega arith; start-boundary = λ _. starts_whole s; end-boundary = ends_whole s }
+    record { start_le_end = omega arith; start_boundary = λ _. starts_whole s; end_boundary = ends_whole s }
 
 pub loop-i-preserved : goal.loop-i-preserved
 loop-i-preserved c =
     let text : IsUtf8 c.args.text.now = search rules in
     let s = stands _ (map level_of c.args.characters.now) c.args.characters.now (get_or c.args.order.now c.loop-i.i-index 0) (record { start = 0; len = 0; level = 0 }) text c.requires.spelt (c.requires.indices c.loop-i.i-index c.loop-i-test.true) in
-    seen_more (chars c.args.text.now) c.args.order.now _ _ _ c.loop-i.i-index c.loop-i-test.true c.loop-i.invariant c.in-ok-push-str.ensures.bytes (c.range.ensures.value ∙ bytes_are s)
+    seen_more (chars c.args.text.now) c.args.order.now _ _ _ c.loop-i.i-index c.loop-i-test.true c.loop-i.invariant c.in_ok-push_str.ensures.bytes (c.range.ensures.value ∙ bytes_are s)
 
 pub returns : goal.returns
 returns c = c.loop-i.invariant ∙ ap (seen_bytes (chars c.args.text.now)) (take_all c.loop-i.i-index c.args.order.now c.loop-i-test.false)

@@ -1,4 +1,4 @@
-use Rattle.std.proofs.Common.{◌≡◌, ℕ, ◌<◌, map, length, vec_items, sym, ap, ◌∙◌, rules}
+use Rattle.std.proofs.Common.{◌≡◌, map, length, sym, ap, ◌∙◌, rules}
 use Rattle.std.specs.Str.{chars}
 use Rattle.std.proofs.lemmas.List.{length-map}
 use Rattle.std.proofs.lemmas.Result.{err_from_is_err_and}
@@ -14,24 +14,24 @@ returns-then-count-levels c = search (rules, chars_from_encodes)
 pub characters-requires : goal.characters-requires
 characters-requires c = search (rules, chars_from_encodes)
 
-pub returns-in-err-order : goal.returns-in-err-order
-returns-in-err-order c =
-    let p = err_from_is_err_and c.from-residual-in-err-order.result c.from-residual-in-err-order.ensures.1 in
+pub returns-in_err-order : goal.returns-in_err-order
+returns-in_err-order c =
+    let p = err_from_is_err_and c.from_residual-in_err-order.result c.from_residual-in_err-order.ensures.1 in
     let long : length (chars c.args.text.now) ≡ length c.args.levels.now = search (rules, chars_from_encodes) in
-    rw (p.1, p.2) (refused_text _ _ _ _ long (ap (map level_of) (c.as-slice.ensures.value ∙ c.in-ok-characters.ensures) ∙ levels_are 0 _ _ long) c.in-err-order.ensures)
+    rw (p.1, p.2) (refused_text _ _ _ _ long (ap (map level_of) (c.as_slice.ensures.value ∙ c.in_ok-characters.ensures) ∙ levels_are 0 _ _ long) c.in_err-order.ensures)
 
-pub in-order-requires : goal.in-order-requires
-in-order-requires c =
+pub in_order-requires : goal.in_order-requires
+in_order-requires c =
     let long : length (chars c.args.text.now) ≡ length c.args.levels.now = search (rules, chars_from_encodes) in
-    let characters = c.as-slice-2.ensures.value ∙ c.in-ok-characters.ensures in
+    let characters = c.as_slice-2.ensures.value ∙ c.in_ok-characters.ensures in
     let given = ap (map level_of) characters ∙ levels_are 0 _ _ long in
     record {
       spelt = characters ∙ ap (characters_of 0 (chars c.args.text.now)) (sym given);
-      indices = below_same _ _ _ _ c.as-slice-3.ensures.value (length-map c.as-slice.result.now level_of ∙ ap length (c.as-slice.ensures.value ∙ sym c.as-slice-2.ensures.value)) c.in-ok-order.ensures.2;
+      indices = below_same _ _ _ _ c.as_slice-3.ensures.value (length-map c.as_slice.result.now level_of ∙ ap length (c.as_slice.ensures.value ∙ sym c.as_slice-2.ensures.value)) c.in_ok-order.ensures.2;
     }
 
 pub returns : goal.returns
 returns c =
     let long : length (chars c.args.text.now) ≡ length c.args.levels.now = search (rules, chars_from_encodes) in
-    let given = ap (map level_of) (c.as-slice.ensures.value ∙ c.in-ok-characters.ensures) ∙ levels_are 0 _ _ long in
-    granted_text _ _ _ c.in-ok-order.order c.in-ok-text.text _ long given c.in-ok-order.ensures c.as-slice-3.ensures.value c.in-ok-text.ensures
+    let given = ap (map level_of) (c.as_slice.ensures.value ∙ c.in_ok-characters.ensures) ∙ levels_are 0 _ _ long in
+    granted_text _ _ _ c.in_ok-order.order c.in_ok-text.text _ long given c.in_ok-order.ensures c.as_slice-3.ensures.value c.in_ok-text.ensures
