@@ -1,5 +1,5 @@
 -- The visual order of ranges, written to a list
-use Rattle.std.proofs.Common.{◌≡◌, ℕ, ◌+◌, ◌-◌, ◌≤◌, ltb, List, ◌++◌, map, length, take, drop, IfOk, Ok, Result, sym, ap, ◌∙◌, subst, arith, length-append, length-drop}
+use Rattle.std.proofs.Common.{◌≡◌, ℕ, ◌-◌, ◌≤◌, ltb, List, ◌++◌, map, length, take, drop, IfOk, Ok, Result, sym, ap, ◌∙◌, subst, arith, length-append, length-drop}
 use lib.Seq.{take-append_seam}
 use Rattle.entry.specs.Lines.{order_of, over_written}
 use Rattle.entry.specs.Written.{InVisualOrder, Written}

@@ -1,7 +1,6 @@
 -- What granted calls lay, and how far the entry has come then
-use Rattle.std.specs.Prelude.{ℕ, ◌+◌, ◌-◌, Bool, true, false, List, ◌++◌, map, length, drop}
+use Rattle.std.specs.Prelude.{ℕ, ◌+◌, ◌-◌, true, false, List, ◌++◌, map, length, drop}
 use Rattle.entry.specs.declared.progress.Progress.{Progress}
-use Rattle.entry.specs.declared.progress.Tally.{Tally}
 use Rattle.layout.specs.Lines.{Line, plain}
 use Rattle.measure.specs.declared.measure.Measure.{Ghosts}
 use Rattle.paragraph.specs.Text.{Text}

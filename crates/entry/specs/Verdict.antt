@@ -1,5 +1,5 @@
 -- Which calls on an entry are refused, and why
-use Rattle.std.specs.Prelude.{ℕ, ◌+◌, Bool, true, false, cond, not, ◌&&◌, length, Some, None, Option, ◌==◌, nat_lt}
+use Rattle.std.specs.Prelude.{ℕ, ◌+◌, Bool, cond, not, ◌&&◌, length, Some, None, Option, ◌==◌, nat_lt}
 use Rattle.entry.specs.Faults.{fault}
 use Rattle.entry.specs.declared.fault.CallCause.TheVariants as cause
 use Rattle.entry.specs.declared.fault.CallFault.{CallFault}

@@ -1,5 +1,5 @@
 -- The bytes that an ellipsis stands for
-use Rattle.std.specs.Prelude.{ℕ, min, max, Bool, true, false, List, [], ◌∷◌, reverse, Some, None, fold, Option}
+use Rattle.std.specs.Prelude.{ℕ, min, max, List, [], ◌∷◌, reverse, Some, None, fold, Option}
 use Rattle.glyph.specs.declared.glyph.Glyph.{Glyph}
 use Rattle.layout.specs.declared.line.ElidedBytes.{ElidedBytes}
 use Rattle.paragraph.specs.Reading.{boundary}

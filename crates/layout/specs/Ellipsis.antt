@@ -1,5 +1,5 @@
 -- The range of the ellipsis, and its level
-use Rattle.std.specs.Prelude.{ℕ, Bool, true, false, cond, List, [], ◌∷◌, ◌++◌, reverse, Some, None, Option, ◌==◌}
+use Rattle.std.specs.Prelude.{ℕ, cond, List, [], ◌∷◌, reverse, Some, None, Option, ◌==◌}
 use Rattle.paragraph.specs.Reading.{edge}
 use Rattle.paragraph.specs.declared.direction.Direction.{Direction}
 use Rattle.paragraph.specs.declared.direction.Direction.TheVariants.{LeftToRight, RightToLeft}

@@ -1,6 +1,5 @@
 -- Closing lines
-use Rattle.std.specs.Prelude.{ℕ, ◌+◌, Bool, true, false, cond, not, ◌&&◌, List, [], ◌∷◌, ◌++◌, reverse, length, Some, None, Option}
-use Rattle.glyph.specs.declared.glyph.Glyph.{Glyph}
+use Rattle.std.specs.Prelude.{ℕ, ◌+◌, cond, not, ◌&&◌, List, [], ◌∷◌, ◌++◌, length, Some, None, Option}
 use Rattle.layout.specs.Elided.{elided_bytes}
 use Rattle.layout.specs.Ellipsis.{ellipsis_range, paragraph_level, first_of, last_of, level_between}
 use Rattle.layout.specs.declared.line.ElidedBytes.{ElidedBytes}
@@ -9,12 +8,9 @@ use Rattle.layout.specs.declared.line.Ellipsize.TheVariants as mode
 use Rattle.layout.specs.declared.line.VisualLine.{VisualLine}
 use Rattle.measure.specs.declared.measure.Measure.{Ghosts}
 use Rattle.paragraph.specs.Text.{Text, span_at, congruent}
-use Rattle.paragraph.specs.declared.direction.Direction.{Direction}
-use Rattle.paragraph.specs.declared.place.Place.{Place}
 use Rattle.paragraph.specs.declared.place.Position.{Position}
 use Rattle.walk.specs.Walk.{Lay, lay}
 use Rattle.walk.specs.declared.line.LayoutDirection.TheVariants.{Forward, Backward}
-use Rattle.walk.specs.declared.line.Rule.{Rule}
 use Rattle.walk.specs.declared.line.Rule.TheVariants.{Never, Closing}
 use Rattle.walk.specs.declared.line.VlRange.{VlRange}
 

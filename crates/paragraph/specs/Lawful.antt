@@ -1,7 +1,7 @@
 -- docs/RULES.md, "The paragraph"
 -- Tables that a paragraph may have, and what the first fault of others is
 use Rattle.std.specs.Prelude.{◌≡◌, ℕ, ◌+◌, ◌<◌, ◌≤◌, Bool, true, false, ◌⊎◌, List, [], ◌∷◌, ◌++◌, length, Ok, Err, Result}
-use Rattle.std.specs.List.{AllByRecursion as All}
+use Rattle.std.specs.List.{AllByRecursion}
 use Rattle.glyph.specs.declared.glyph.Glyph.{Glyph}
 use Rattle.glyph.specs.Ranges.{glyph_in}
 use Rattle.paragraph.specs.declared.fault.TableCause.{TableCause}
@@ -15,7 +15,7 @@ use Rattle.paragraph.specs.Text.{Text, Sound}
 
 -- each glyph's fields are in range
 abbrev pub InRange : List Glyph → Type 0
-InRange gs = All (λ g. glyph_in g ≡ true) gs
+InRange gs = AllByRecursion (λ g. glyph_in g ≡ true) gs
 
 -- the tables are sound, each glyph's fields are in range, and the ellipsis has 1 to 16 glyphs
 pub record Lawful (t : Text) (e : List Glyph) : Type 0 where
@@ -54,7 +54,7 @@ pub record Failing {X : Type 0} (test : X → Bool) (xs : List X) (row : ℕ) : 
   pub after : List X
   pub split : xs ≡ before ++ (bad ∷ after)
   pub here : length before ≡ row
-  pub good : All (λ x. test x ≡ true) before
+  pub good : AllByRecursion (λ x. test x ≡ true) before
   pub fails : test bad ≡ false
 
 -- at most 16,384 glyphs, 4,096 words and 256 spans

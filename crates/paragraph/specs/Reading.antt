@@ -1,6 +1,6 @@
 -- docs/RULES.md, "The paragraph"
 -- Positions, and reading order
-use Rattle.std.specs.Prelude.{ℕ, zero, suc, ◌+◌, ◌-◌, Bool, true, false, cond, ◌&&◌, List, [], ◌∷◌, ◌++◌, reverse, length, ◌==◌, nat_le, nat_lt}
+use Rattle.std.specs.Prelude.{ℕ, zero, suc, ◌+◌, ◌-◌, Bool, cond, ◌&&◌, List, [], ◌++◌, reverse, length, ◌==◌, nat_le, nat_lt}
 use Rattle.std.specs.List.{range_with_len}
 use Rattle.paragraph.specs.declared.place.Place.{Place}
 use Rattle.paragraph.specs.declared.place.Position.{Position}

@@ -1,6 +1,6 @@
 -- docs/RULES.md, "The paragraph"
 -- A paragraph's tables, one on another
-use Rattle.std.specs.Prelude.{◌≡◌, ℕ, suc, ◌+◌, ◌%◌, ◌<◌, ◌≤◌, Bool, true, false, cond, ◌&&◌, List, length, ◌==◌, slice_index_or}
+use Rattle.std.specs.Prelude.{◌≡◌, ℕ, ◌+◌, ◌%◌, ◌≤◌, Bool, false, List, length, ◌==◌, slice_index_or}
 use Rattle.glyph.specs.declared.glyph.Glyph.{Glyph}
 use Rattle.paragraph.specs.declared.direction.Direction.{Direction}
 use Rattle.paragraph.specs.declared.direction.Direction.TheVariants.{LeftToRight, RightToLeft}

@@ -237,7 +237,7 @@ fn is_expected(
         return Ok(false);
     }
     let shown = range_numbers(heap, &list.as_slice()[0..got.ranges])?;
-    Ok(shown.as_slice() == ranges && line_numbers(&got) == line)
+    Ok(shown.as_slice() == ranges && line_numbers(&got).as_slice() == line)
 }
 
 // The parts of a case.

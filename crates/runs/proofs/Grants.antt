@@ -26,7 +26,6 @@ use Rattle.runs.specs.Log.{Recorded, ahead_now, closed, lines_of, holds_ellipsis
 use Rattle.runs.specs.Standing.{Stands}
 use Rattle.std.proofs.lemmas.List.{drop_at}
 use Rattle.std.proofs.lemmas.Bool.{cond-false, ne_eqb}
-use Rattle.std.proofs.lemmas.Bool.Decides.{nat_tests}
 use Rattle.visual_order.specs.Laws.{OnceLaw, PairLaw}
 use Rattle.walk.specs.Walk.{Lay, lay}
 use Rattle.walk.specs.declared.line.LayoutDirection.TheVariants.{Forward}

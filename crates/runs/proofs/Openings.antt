@@ -1,5 +1,5 @@
 -- Runs on an entry that was opened, or was not
-use Rattle.std.proofs.Common.{◌≡◌, ℕ, true, List, map, length, IfOk, Ok, Err, vec_items, Result, Vec, sym, refl, ap, ◌∙◌, subst, arith, MatchResult}
+use Rattle.std.proofs.Common.{◌≡◌, ℕ, List, map, length, IfOk, Ok, Err, vec_items, Result, Vec, sym, refl, ap, ◌∙◌, subst, arith, MatchResult}
 use mathlib.Core.Bool.{false≢true}
 use Rattle.entry.specs.Entries.{progress_of}
 use Rattle.entry.specs.Outcomes.{Begins, OpensBy}

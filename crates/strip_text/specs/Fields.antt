@@ -1,5 +1,5 @@
 -- What single fields say
-use Rattle.std.specs.Prelude.{◌≡◌, ℕ, ◌^◌, ◌<◌, ◌≤◌, true, false, List, [], ◌∷◌, ◌++◌, length, pos, Some, None, decimal, Option, ◌≢◌, from_bits, slice_index, Float}
+use Rattle.std.specs.Prelude.{◌≡◌, ℕ, ◌^◌, ◌<◌, ◌≤◌, true, false, List, ◌∷◌, ◌++◌, length, pos, Some, None, decimal, Option, ◌≢◌, from_bits, slice_index, Float}
 use Rattle.std.specs.Float.{binary32}
 use Rattle.std.specs.Float.Ieee.{of_int}
 use Rattle.std.specs.Float.Parse.{is_float_text}

@@ -1,5 +1,5 @@
 -- What is read of the levels of elements, at a function f from an element to its level
-use Rattle.std.proofs.Common.{◌≡◌, ℕ, ◌+◌, ◌<◌, ◌≤◌, true, false, leb, List, [], ◌∷◌, ◌++◌, map, length, get_or, take, fold, sym, ap, ◌∙◌}
+use Rattle.std.proofs.Common.{◌≡◌, ℕ, ◌+◌, ◌<◌, ◌≤◌, true, false, leb, List, map, length, get_or, take, fold, sym, ap, ◌∙◌}
 use Rattle.std.proofs.lemmas.List.{map_more, get_or-map, take_all}
 use Rattle.std.proofs.lemmas.List.Sums.{fold_push}
 use Rattle.std.proofs.lemmas.Bool.{le-leb, lt-leb}

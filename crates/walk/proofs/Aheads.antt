@@ -1,15 +1,15 @@
 -- What is ahead of a position stands in the tables
-use Rattle.std.proofs.Common.{◌≡◌, ℕ, ◌+◌, ◌-◌, ◌<◌, ◌≤◌, Bool, true, false, cond, ◌&&◌, eqb, ltb, leb, length, sym, refl, ap, ◌∙◌, subst, arith}
+use Rattle.std.proofs.Common.{◌≡◌, ℕ, ◌+◌, ◌<◌, ◌≤◌, Bool, true, false, cond, eqb, length, sym, refl, ap, ◌∙◌, subst, arith}
 use Rattle.std.proofs.lemmas.Bool.{eqb-true}
 use Rattle.std.proofs.lemmas.Bool.Decides.{nat_tests}
-use Rattle.paragraph.specs.Reading.{ahead_in, between, edge, whole, exists, place_in, glyphs_of_word}
-use Rattle.paragraph.specs.Text.{Text, Sound, congruent, span_at, word_at}
+use Rattle.paragraph.specs.Reading.{ahead_in, between, edge, whole, exists, glyphs_of_word}
+use Rattle.paragraph.specs.Text.{Text, Sound, congruent, span_at}
 use Rattle.paragraph.specs.declared.place.Place.{Place}
 use Rattle.paragraph.specs.declared.place.Position.{Position}
 use Rattle.paragraph.specs.declared.place.Stretch.{Stretch}
 use Rattle.paragraph.specs.declared.span.Span.{Span}
 use Rattle.walk.specs.Inside.{Inside}
-use Rattle.walk.specs.Parts.{low, high, words_in}
+use Rattle.walk.specs.Parts.{words_in}
 use Rattle.walk.specs.Widths.{ahead_of}
 use Rattle.walk.proofs.Tables.{word_ends, span_ends}
 

@@ -1,5 +1,5 @@
 -- One word more, or one span more, of what is added up
-use Rattle.std.proofs.Common.{◌≡◌, ℕ, suc, ◌+◌, ◌-◌, ◌<◌, sym, ap, ◌∙◌, arith}
+use Rattle.std.proofs.Common.{◌≡◌, ℕ, suc, ◌+◌, ◌-◌, ◌<◌, ap, ◌∙◌, arith}
 use Rattle.measure.specs.declared.measure.Measure.{Ghosts}
 use Rattle.paragraph.specs.Reading.{ahead_in}
 use Rattle.paragraph.specs.Text.{Text, span_at}

@@ -1,5 +1,5 @@
 -- Sound tables: each row ends inside the table below it
-use Rattle.std.proofs.Common.{◌≡◌, ℕ, zero, suc, ◌+◌, ◌<◌, ◌≤◌, false, length, ap, arith}
+use Rattle.std.proofs.Common.{◌≡◌, ℕ, zero, suc, ◌+◌, ◌≤◌, false, length, ap, arith}
 use Rattle.std.proofs.lemmas.List.{get_or_past}
 use Rattle.paragraph.specs.Text.{Text, Sound, word_at, span_at}
 use Rattle.paragraph.specs.declared.span.Span.{Span}

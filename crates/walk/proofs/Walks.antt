@@ -1,5 +1,5 @@
 -- One word more of a walk, one span more, and the ends
-use Rattle.std.proofs.Common.{◌≡◌, ℕ, zero, suc, ◌+◌, ◌-◌, ◌*◌, ◌<◌, ◌≤◌, Bool, true, false, cond, List, [], ◌++◌, length, drop, sym, refl, ap, ◌∙◌, subst, arith}
+use Rattle.std.proofs.Common.{◌≡◌, ℕ, zero, suc, ◌+◌, ◌-◌, ◌<◌, ◌≤◌, Bool, true, false, cond, List, [], ◌++◌, length, drop, sym, ap, ◌∙◌, subst, arith}
 use Rattle.std.proofs.lemmas.Bool.{cond-true, cond-false}
 use Rattle.measure.specs.declared.measure.Measure.{Ghosts}
 use Rattle.paragraph.specs.Reading.{ahead_in, exists}
@@ -10,7 +10,7 @@ use Rattle.paragraph.specs.declared.span.Span.{Span}
 use Rattle.walk.specs.Inside.{Inside}
 use Rattle.walk.specs.Parts.{forward, goes_up, later, next, part_size, words_in}
 use Rattle.walk.specs.Steps.{as_part, counted, put_at, range_at}
-use Rattle.walk.specs.Walk.{Lay, Part, cut_part, in_span, kept, part_of, told, walked, walks, with_part}
+use Rattle.walk.specs.Walk.{Lay, Part, cut_part, in_span, kept, part_of, told, walks, with_part}
 use Rattle.walk.specs.Widths.{overflow, part_width, rest_width}
 use Rattle.walk.specs.declared.line.LayoutDirection.{LayoutDirection}
 use Rattle.walk.specs.declared.line.Rule.{Rule}

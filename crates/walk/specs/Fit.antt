@@ -1,5 +1,5 @@
 -- The glyphs that an overflowing word gives
-use Rattle.std.specs.Prelude.{ℕ, zero, suc, ◌+◌, Bool, true, false, cond, List, map, ◌==◌, slice_index_or}
+use Rattle.std.specs.Prelude.{ℕ, zero, suc, Bool, cond, List, map, ◌==◌, slice_index_or}
 use Rattle.glyph.specs.declared.glyph.Glyph.{Glyph}
 use Rattle.measure.specs.declared.measure.Measure.{Ghosts}
 use Rattle.walk.specs.Parts.{next, later}

@@ -1,7 +1,7 @@
 -- The words of a stretch, and what is still to walk as an interval
 use Rattle.std.specs.Prelude.{ℕ, ◌+◌, ◌-◌, Bool, true, false, cond, not, List, take, drop, ◌==◌, nat_lt}
 use Rattle.glyph.specs.declared.glyph.Glyph.{Glyph}
-use Rattle.paragraph.specs.Text.{Text, congruent}
+use Rattle.paragraph.specs.Text.{congruent}
 use Rattle.paragraph.specs.declared.direction.Direction.{Direction}
 use Rattle.paragraph.specs.declared.place.Stretch.{Stretch}
 use Rattle.paragraph.specs.declared.span.Span.{Span}

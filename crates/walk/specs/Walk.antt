@@ -7,9 +7,8 @@ use Rattle.paragraph.specs.declared.place.Place.{Place}
 use Rattle.paragraph.specs.declared.place.Position.{Position}
 use Rattle.paragraph.specs.declared.place.Stretch.{Stretch}
 use Rattle.paragraph.specs.declared.span.Span.{Span}
-use Rattle.paragraph.specs.declared.word.Word.{Word}
 use Rattle.walk.specs.Fit.{cut}
-use Rattle.walk.specs.Parts.{words_in, low, high, part_size, row_of, forward, goes_up, next, later}
+use Rattle.walk.specs.Parts.{words_in, low, part_size, row_of, forward, goes_up, next, later}
 use Rattle.walk.specs.Widths.{ahead_of, part_width, rest_width, overflow}
 use Rattle.walk.specs.declared.line.LayoutDirection.{LayoutDirection}
 use Rattle.walk.specs.declared.line.LayoutDirection.TheVariants.{Forward, Backward}

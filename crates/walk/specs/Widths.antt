@@ -1,5 +1,5 @@
 -- The widths of words and of what is still to walk, and the overflow rules
-use Rattle.std.specs.Prelude.{ℕ, zero, suc, ◌+◌, Bool, true, false, cond, ◌&&◌, ◌||◌, List, length, nat_lt}
+use Rattle.std.specs.Prelude.{ℕ, zero, suc, ◌+◌, Bool, false, ◌&&◌, ◌||◌, nat_lt}
 use Rattle.measure.specs.Rows.{row_width}
 use Rattle.measure.specs.declared.measure.Measure.{Ghosts}
 use Rattle.paragraph.specs.Reading.{ahead_in}
@@ -7,7 +7,6 @@ use Rattle.paragraph.specs.Text.{Text, word_at, span_at}
 use Rattle.paragraph.specs.declared.place.Position.{Position}
 use Rattle.paragraph.specs.declared.place.Stretch.{Stretch}
 use Rattle.paragraph.specs.declared.span.Span.{Span}
-use Rattle.paragraph.specs.declared.word.Word.{Word}
 use Rattle.walk.specs.Parts.{words_in, low, high, glyphs_between}
 use Rattle.walk.specs.declared.line.Rule.{Rule}
 use Rattle.walk.specs.declared.line.Rule.TheVariants.{Never, Closing, Taking}

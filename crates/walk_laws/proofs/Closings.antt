@@ -15,7 +15,7 @@ use Rattle.paragraph.specs.declared.span.Span.{Span}
 use Rattle.paragraph.specs.declared.word.Word.{Word}
 use Rattle.walk.specs.Fit.{cut}
 use Rattle.walk.specs.Parts.{low, high, part_size, row_of, forward, goes_up, next, later}
-use Rattle.walk.specs.Walk.{Part, Lay, cut_to, cut_part, in_span, in_order, kept, range_of, same_place, with_part, part_of, lay}
+use Rattle.walk.specs.Walk.{Part, Lay, cut_to, cut_part, in_order, kept, range_of, same_place, with_part, part_of, lay}
 use Rattle.walk.specs.Widths.{ahead_of}
 use Rattle.walk.specs.declared.line.LayoutDirection.{LayoutDirection}
 use Rattle.walk.specs.declared.line.LayoutDirection.TheVariants.{Forward, Backward}

@@ -1,5 +1,5 @@
 use Rattle.std.proofs.Common.{◌≡◌, ℕ, true, false, sym, refl, ap, ◌∙◌, arith}
-use lib.Ieee.{binary32, of_bits, le, lt, eq}
+use lib.Ieee.{le, lt, eq}
 use Rattle.glyph.specs.Ranges.{float_0, size_in}
 use Rattle.glyph.proofs.Floats.{bits_0}
 use Rattle.c_api.proofs.points.any_points.Goals as goal

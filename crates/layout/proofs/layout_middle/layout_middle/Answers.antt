@@ -1,4 +1,4 @@
-use Rattle.std.proofs.Common.{List, ◌++◌, length, drop, sym, ap, ◌∙◌, arith}
+use Rattle.std.proofs.Common.{List, ◌++◌, drop, sym, ap, ◌∙◌, arith}
 use Rattle.paragraph.specs.Lent.{lent}
 use Rattle.walk.specs.Walk.{Lay, lay, told}
 use Rattle.walk.specs.declared.line.LayoutDirection.TheVariants.{Forward}

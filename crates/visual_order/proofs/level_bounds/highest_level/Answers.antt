@@ -1,4 +1,4 @@
-use Rattle.std.proofs.Common.{◌≡◌, max, sym, ◌∙◌, ap₂, arith, rules}
+use Rattle.std.proofs.Common.{max, sym, ◌∙◌, ap₂}
 use Rattle.visual_order.proofs.Levels.{folded_level, folded_levels}
 use Rattle.visual_order.proofs.level_bounds.highest_level.Goals as goal
 

@@ -1,7 +1,7 @@
-use Rattle.std.proofs.Common.{◌≡◌, ℕ, suc, ◌+◌, ◌-◌, ◌≤◌, [], map, length, sym, refl, ap, ◌∙◌, arith}
+use Rattle.std.proofs.Common.{ℕ, ◌+◌, ◌-◌, [], map, length, sym, ap, ◌∙◌, arith}
 use Rattle.std.specs.List.{range_with_len}
 use Rattle.std.proofs.lemmas.List.{length-map}
-use Rattle.visual_order.specs.VisualOrder.{rounds, turned, high}
+use Rattle.visual_order.specs.VisualOrder.{turned, high}
 use Rattle.visual_order.proofs.InPlace.{high_in_place}
 use Rattle.visual_order.proofs.Rounds.{rounds_none, rounds_more, lowest_odd_le, rounds_done}
 use Rattle.visual_order.proofs.reordering.arrange.Goals as goal

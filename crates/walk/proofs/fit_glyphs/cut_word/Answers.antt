@@ -1,4 +1,4 @@
-use Rattle.std.proofs.Common.{◌≡◌, ◌+◌, ◌-◌, ◌<◌, length, sym, ap, ◌∙◌, arith}
+use Rattle.std.proofs.Common.{◌-◌, ◌<◌, length, sym, ap, ◌∙◌, arith}
 use Rattle.walk.specs.Parts.{next}
 use Rattle.walk.specs.Fit.{cut}
 use Rattle.walk.proofs.Fits.{width_is}

@@ -1,4 +1,4 @@
-use Rattle.std.proofs.Common.{◌≡◌, sym, ap, ◌∙◌, arith}
+use Rattle.std.proofs.Common.{sym, ap, ◌∙◌, arith}
 use Rattle.paragraph.specs.Lent.{lent}
 use Rattle.walk.specs.Walk.{walked}
 use Rattle.walk.specs.declared.line.Walked.{Walked}

@@ -1,8 +1,6 @@
-use Rattle.std.proofs.Common.{◌≡◌, suc, ◌+◌, ◌-◌, ◌≤◌, true, List, refl, ap, ◌∙◌, arith}
+use Rattle.std.proofs.Common.{◌≡◌, suc, ◌-◌, refl, ap, ◌∙◌, arith}
 use Rattle.paragraph.specs.Lent.{lent}
-use Rattle.walk.specs.Steps.{as_part, counted, put_at, range_at}
 use Rattle.walk.specs.Walk.{Part, cut_part}
-use Rattle.walk.specs.declared.line.VlRange.{VlRange}
 use Rattle.walk.specs.declared.line.Walked.{Walked}
 use Rattle.walk.proofs.Aheads.{end_small}
 use Rattle.walk.proofs.Walks.{starts, walked_through, span_there, later_there, enters, span_through, span_ended, word_inside, part_inside, rest_inside, word_on, word_cut}
