@@ -71,6 +71,7 @@ fn report_named(rt: &HostRuntime, name: &str) -> io::Result<()> {
         NamedMeasure::Points(points) => report(rt, name, &points),
         NamedMeasure::Units(pile) => report(rt, name, &Layered::of(pile, Units)),
         NamedMeasure::Cells(pile) => report(rt, name, &Layered::of(pile, Cells)),
+        NamedMeasure::Lawless => report(rt, name, &measure_text::lawless::Lawless),
     }
 }
 

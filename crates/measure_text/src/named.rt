@@ -1,4 +1,4 @@
-// Measures by their names in text: `points SIZE`, or `units` or `cells` and then up to 8 times `tracking SPACING`, the innermost first.
+// Measures by their names in text: `points SIZE`, `lawless`, or `units` or `cells` and then up to 8 times `tracking SPACING`, the innermost first.
 // A size is a decimal number, or 0x and the bits of an f32 in hex.
 ghost use Rattle.std.specs.Prelude.{◌≡◌, ◌-◌, Err};
 
@@ -15,16 +15,17 @@ pub enum NamedMeasure {
     Points(Points),
     Units(Pile),
     Cells(Pile),
+    Lawless,
 }
 
 /// Why a text names no measure.
 #[derive(Clone, Copy, PartialEq, Eq, Debug)]
 pub enum NameCause {
-    /// The word is not `points`, `units` or `cells`, or there is none.
+    /// The word is not `points`, `units`, `cells` or `lawless`, or there is none.
     NoMeasure,
     /// The word is no number, or there is none.
     NoNumber,
-    /// The word is not `tracking`, or the text goes on behind `points` and its size.
+    /// The word is not `tracking`, or the text goes on behind `lawless` or behind `points` and its size.
     Strange,
     /// There are more than 8 trackings.
     TooMany,
@@ -55,7 +56,16 @@ pub fn read_measure(text: &str) -> Result<NamedMeasure, NameFault> {
         Some("points") => Ok(NamedMeasure::Points(read_points(&mut words)?)),
         Some("units") => Ok(NamedMeasure::Units(read_pile(&mut words)?)),
         Some("cells") => Ok(NamedMeasure::Cells(read_pile(&mut words)?)),
+        Some("lawless") => ended(&mut words, NamedMeasure::Lawless),
         _ => fault(&words, NameCause::NoMeasure),
+    }
+}
+
+// The value, if the text ends here.
+fn ended<T: Drop>(words: &mut Words<'_>, value: T) -> Result<T, NameFault> {
+    match words.next_word() {
+        None => Ok(value),
+        Some(_) => fault(words, NameCause::Strange),
     }
 }
 
@@ -67,10 +77,7 @@ fn read_points(words: &mut Words<'_>) -> Result<Points, NameFault> {
         Ok(points) => points,
         Err(refused) => return fault(words, NameCause::Setting(refused)),
     };
-    match words.next_word() {
-        None => Ok(points),
-        Some(_) => fault(words, NameCause::Strange),
-    }
+    ended(words, points)
 }
 
 fn read_size(words: &mut Words<'_>) -> Option<f32> {

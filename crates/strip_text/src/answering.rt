@@ -12,6 +12,7 @@ use measure::layered::Layered;
 use measure::measure::Measure;
 use measure::settings::{SettingFault, SettingName};
 use measure::units::Units;
+use measure_text::lawless::Lawless;
 use measure_text::named::NamedMeasure;
 use std::alloc::Global;
 
@@ -55,6 +56,7 @@ fn answer_named(
             let measure = Layered::of(pile, Cells);
             answer_over(heap, lines, before, calls, head, measure)
         }
+        NamedMeasure::Lawless => answer_over(heap, lines, before, calls, head, Lawless),
     }
 }
 
