@@ -7,19 +7,23 @@
 use seen_text::{InputFault, answer};
 use std::io;
 use std::io::Read;
+use std::process::ExitCode;
 
-fn main(rt: HostRuntime) -> io::Result<()> {
+fn main(rt: HostRuntime) -> io::Result<ExitCode> {
     let mut input = Vec::new(rt.alloc());
     rt.stdin().read_to_end(&mut input)?;
     match answer(rt.alloc(), input.as_slice()) {
-        Ok(text) => print!(rt; "{text}"),
+        Ok(text) => {
+            print!(rt; "{text}")?;
+            Ok(ExitCode::SUCCESS)
+        }
         Err(InputFault::Format(fault)) => {
             eprintln!(rt; "seen: {fault}")?;
-            Err(io::Error::from(io::ErrorKind::InvalidData))
+            Ok(ExitCode::FAILURE)
         }
         Err(InputFault::Memory) => {
             eprintln!(rt; "seen: no memory")?;
-            Err(io::Error::from(io::ErrorKind::OutOfMemory))
+            Ok(ExitCode::FAILURE)
         }
     }
 }

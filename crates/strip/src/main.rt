@@ -4,20 +4,24 @@
 
 use std::io;
 use std::io::Read;
+use std::process::ExitCode;
 use strip_text::{InputFault, answer};
 
-fn main(rt: HostRuntime) -> io::Result<()> {
+fn main(rt: HostRuntime) -> io::Result<ExitCode> {
     let mut input = Vec::new(rt.alloc());
     rt.stdin().read_to_end(&mut input)?;
     match answer(rt.alloc(), input.as_slice()) {
-        Ok(text) => print!(rt; "{text}"),
+        Ok(text) => {
+            print!(rt; "{text}")?;
+            Ok(ExitCode::SUCCESS)
+        }
         Err(InputFault::Format(fault)) => {
             eprintln!(rt; "strip: {fault}")?;
-            Err(io::Error::from(io::ErrorKind::InvalidData))
+            Ok(ExitCode::FAILURE)
         }
         Err(InputFault::Memory) => {
             eprintln!(rt; "strip: no memory")?;
-            Err(io::Error::from(io::ErrorKind::OutOfMemory))
+            Ok(ExitCode::FAILURE)
         }
     }
 }
