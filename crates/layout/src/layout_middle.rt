@@ -104,7 +104,7 @@ fn join_halves<M: Measure>(
     requires room { first.ranges + 1 + second.ranges ≤ length ranges.old }
     requires blanks { first.blanks + second.blanks < 2 ^ 64 }
     requires laid { first.laid + second.laid < 2 ^ 64 }
-    ensures told { result ≡ record { ranges = first.ranges + 1 + second.ranges; blanks = first.blanks + second.blanks; laid = first.laid + second.laid; width = M.Measure.sum_of m.now (M.Measure.sum_of m.now first.width second.width) ellipsis; elided = Some (elided_bytes (lent tables.entry) none_before (take (first.ranges - 0) ranges.entry.now) (take (first.ranges + 1 + second.ranges - (first.ranges + 1)) (drop (first.ranges + 1) ranges.entry.now))) } }
+    ensures told { result ≡ record { ranges = first.ranges + 1 + second.ranges; blanks = first.blanks + second.blanks; laid = first.laid + second.laid; width = M.Measure.sum_of m.now (M.Measure.sum_of m.now first.width second.width) ellipsis; elided = Some (elided_bytes (lent tables.entry) none_before (take (first.ranges - 0) ranges.old) (take (first.ranges + 1 + second.ranges - (first.ranges + 1)) (drop (first.ranges + 1) ranges.old))) } }
     ensures written { ranges.new ≡ slice_set ranges.old first.ranges (ellipsis_range (level_between tables.entry.direction (Some last) (first_of (take (first.ranges + 1 + second.ranges - (first.ranges + 1)) (drop (first.ranges + 1) ranges.old))))) }
 {
     let n = first.ranges;
