@@ -5,4 +5,6 @@ pub mod Sums
 pub mod Fits
 pub mod Progress
 pub mod Puts
+pub mod Words
 pub mod Walks
+pub mod Wholes

@@ -4,3 +4,4 @@ pub mod Widths
 pub mod Fit
 pub mod Walk
 pub mod Steps
+pub mod Whole

@@ -11,6 +11,7 @@ use crate::overflow::overflows;
 use crate::part::{cut_part, unwalked, with_word};
 use crate::put::{turn, with_part};
 use crate::rest::Rest;
+use crate::walk_whole::walk_whole;
 use crate::widths::part_width;
 use measure::measure::Measure;
 use paragraph::place::Position;
@@ -30,7 +31,7 @@ fn nothing<M: Measure>(m: &M) -> Walked<M::Width>
 }
 
 // The walk, its ranges in the order in which it comes to them. `first` is where the spans begin, in table order, that are still to walk, and `at`
-// where the words of the span do.
+// where the words of the span do. Where nothing overflows the words are only added up.
 fn walk_spans<M: Measure>(
     m: &M,
     tables: Tables<'_>,
@@ -53,10 +54,23 @@ fn walk_spans<M: Measure>(
         first = later_of(forward, first);
         let span = span_at(tables, s);
         let stretch = span.ahead_of(tables.direction, position, s);
+        let ahead = Rest {
+            span,
+            stretch,
+            at: stretch.start.word,
+            words: words_in(stretch),
+            first,
+            spans,
+        };
         let up = goes_up(tables.direction, span, direction);
+        if let Rule::Never = rule {
+            let whole = walk_whole(m, tables, up, line, ahead);
+            line = with_part(m, ranges, line, s, span.level, whole);
+            continue 'outer;
+        }
         let mut part = unwalked(m, line, stretch);
-        let mut at = stretch.start.word;
-        'inner: for words in (0..words_in(stretch)).rev() {
+        let mut at = ahead.at;
+        'inner: for words in (0..ahead.words).rev() {
             let w = next_of(up, at, words);
             at = later_of(up, at);
             let x = part_width(m, tables, span, stretch, w);
