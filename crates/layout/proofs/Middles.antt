@@ -1,25 +1,36 @@
 -- The line with the ellipsis in its middle
-use Rattle.std.proofs.Common.{◌≡◌, ℕ, ◌+◌, ◌-◌, ◌<◌, ◌≤◌, true, false, not, ◌&&◌, List, [], ◌∷◌, ◌++◌, length, take, drop, set, Some, None, Option, sym, refl, ap, ◌∙◌, ⊎_elim, arith}
+use Rattle.std.proofs.Common.{◌≡◌, ℕ, ◌+◌, ◌-◌, ◌<◌, ◌≤◌, Bool, true, false, cond, not, List, [], ◌∷◌, ◌++◌, length, take, drop, set, Some, None, Option, sym, refl, ap, ◌∙◌, ⊎_elim, arith}
 use Rattle.std.proofs.lemmas.List.{length-append}
-use Rattle.std.proofs.lemmas.Bool.{cond-true, cond-false, cases_lt}
+use Rattle.std.proofs.lemmas.Bool.{and_parts, cond-true, cond-false, cases_lt, not-true}
 use Rattle.measure.specs.declared.measure.Measure.{Ghosts}
 use Rattle.layout.specs.Elided.{elided_bytes}
 use Rattle.layout.specs.Ellipsis.{ellipsis_range, first_of, last_of, level_between, paragraph_level}
-use Rattle.layout.specs.Halves.{first_half, parted_line}
+use Rattle.layout.specs.Halves.{end_fits, first_half, parted_line}
 use Rattle.layout.specs.Lines.{Line, line_ranges, line_told, plain, halves, middle_line, ends_at}
 use Rattle.layout.specs.declared.line.VisualLine.{VisualLine}
 use Rattle.paragraph.specs.Reading.{exists}
 use Rattle.paragraph.specs.Text.{Text, Sound}
 use Rattle.paragraph.specs.declared.place.Position.{Position}
+use Rattle.walk.proofs.Wholes.{lay_whole}
 use Rattle.walk.specs.Walk.{Lay, lay, told}
+use Rattle.walk.specs.Whole.{whole_ranges}
 use Rattle.walk.specs.declared.line.LayoutDirection.TheVariants.{Forward, Backward}
 use Rattle.walk.specs.declared.line.Rule.TheVariants.{Closing}
 use Rattle.walk.specs.declared.line.VlRange.{VlRange}
 use Rattle.walk.specs.declared.line.Walked.{Walked}
-use Rattle.layout.proofs.Closings.{marked_told, blanks_is, laid_is, width_is, ranges_is}
+use Rattle.layout.proofs.Closings.{marked_told, plain_line, blanks_is, laid_is, width_is, ranges_is}
 use Rattle.layout.proofs.Ends.{last_is}
 use Rattle.layout.proofs.Laid.{lay_ends}
 use Rattle.layout.proofs.Lists.{set_behind, parts_front, parts_back, parts_set}
+
+-- something that is told only on a condition
+some_cond : {X : Type 0} (b : Bool) {x y : X} → Some x ≡ cond b (Some y) None → (b ≡ true) × (x ≡ y)
+some_cond true e = (refl, cc)
+some_cond false e = let z : ◌≡◌ {A = ℕ} 0 1 = cc in absurd (omega arith)
+
+none_cond : {X : Type 0} (b : Bool) (y : X) → None ≡ cond b (Some y) None → b ≡ false
+none_cond true y e = let z : ◌≡◌ {A = ℕ} 0 1 = cc in absurd (omega arith)
+none_cond false y e = refl
 
 module _ {S W : Type 0} (k : Ghosts S W) (m : S) (t : Text) (p : Position) (width ellipsis : W) where
   pub half_is : (h z : W) → h ≡ k.half_of m width → z ≡ k.nil_of m → lay k m t p (Closing h z) Forward ≡ first_half k m t p width
@@ -31,13 +42,32 @@ module _ {S W : Type 0} (k : Ghosts S W) (m : S) (t : Text) (p : Position) (widt
       let there = lay_ends k m t p (Closing (k.half_of m width) (k.nil_of m)) sound stands last ends in
       (ap (exists t) cut_is ∙ there.0, omega (arith, there.1, ap (λ (q : Position). q.span) cut_is, ranges_is (first_half k m t p width) first is))
 
+  -- End's trial fits. `before` is the list, `out` with the ranges of all that is ahead
+  module _ (trial : Walked W) (tried : Some trial ≡ cond (end_fits k m t p width ellipsis) (Some (told (lay k m t p (Closing width ellipsis) Forward))) None) where
+    kept_trial : (end_fits k m t p width ellipsis ≡ true) × (trial ≡ told (lay k m t p (Closing width ellipsis) Forward))
+    kept_trial = some_cond (end_fits k m t p width ellipsis) tried
+
+    pub middle_kept : (none count : ℕ) (before out : List VlRange) (r : VisualLine W) → r ≡ record { ranges = trial.ranges; blanks = trial.blanks; laid = trial.laid; width = trial.width; elided = None } → count ≡ length (whole_ranges t p) →
+        out ≡ whole_ranges t p ++ drop count before → (r ≡ line_told t none (middle_line k m t p width ellipsis)) × (out ≡ line_ranges (middle_line k m t p width ellipsis) ++ drop r.ranges before)
+    middle_kept none count before out r r_is count_is out_is =
+        let l = lay k m t p (Closing width ellipsis) Forward in
+        let line_is : middle_line k m t p width ellipsis ≡ plain l = cond-true _ _ _ kept_trial.0 in
+        let whole : l.ranges ≡ whole_ranges t p = lay_whole k m t p (Closing width ellipsis) (not-true l.flagged (and_parts (not l.flagged) _ kept_trial.0).0) in
+        let long : count ≡ trial.ranges = count_is ∙ ap length (sym whole) ∙ sym (ranges_is l trial kept_trial.1) in
+        let written : out ≡ l.ranges ++ drop trial.ranges before = out_is ∙ ap (λ (rs : List VlRange). rs ++ drop count before) (sym whole) ∙ ap (λ (i : ℕ). l.ranges ++ drop i before) long in
+        let both = plain_line t none l trial r before out kept_trial.1 r_is written in
+        (both.0 ∙ ap (line_told t none) (sym line_is), both.1 ∙ ap (λ (y : Line W). line_ranges y ++ drop r.ranges before) (sym line_is))
+
   -- End's trial does not fit
-  module _ (tried : false ≡ (not (lay k m t p (Closing width ellipsis) Forward).flagged && not (k.over_of m (lay k m t p (Closing width ellipsis) Forward).width width))) where
+  module _ (tried_none : None ≡ cond (end_fits k m t p width ellipsis) (Some (told (lay k m t p (Closing width ellipsis) Forward))) None) where
+    tried : end_fits k m t p width ellipsis ≡ false
+    tried = none_cond (end_fits k m t p width ellipsis) _ tried_none
+
     pub middle_plain : (first_half k m t p width).flagged ≡ false → middle_line k m t p width ellipsis ≡ plain (first_half k m t p width)
-    middle_plain e = cond-false _ _ _ (sym tried) ∙ cond-false _ _ _ e
+    middle_plain e = cond-false _ _ _ tried ∙ cond-false _ _ _ e
 
     pub middle_parted : (first_half k m t p width).flagged ≡ true → middle_line k m t p width ellipsis ≡ parted_line k m t p width ellipsis
-    middle_parted e = cond-false _ _ _ (sym tried) ∙ cond-true _ _ _ e
+    middle_parted e = cond-false _ _ _ tried ∙ cond-true _ _ _ e
 
   -- the first half has a place in the line
   pub parted_long : length (first_half k m t p width).ranges ≤ length (line_ranges (parted_line k m t p width ellipsis))

@@ -1,4 +1,5 @@
 -- The parts of a line with the ellipsis in its middle
+use Rattle.std.specs.Prelude.{Bool, not, ◌&&◌}
 use Rattle.layout.specs.Ellipsis.{last_of}
 use Rattle.layout.specs.Lines.{Line, halves}
 use Rattle.measure.specs.declared.measure.Measure.{Ghosts}
@@ -9,6 +10,12 @@ use Rattle.walk.specs.declared.line.LayoutDirection.TheVariants.{Forward}
 use Rattle.walk.specs.declared.line.Rule.TheVariants.{Closing}
 
 module _ {S W : Type 0} (k : Ghosts S W) (m : S) (t : Text) (p : Position) (width : W) where
+  -- End's walk, which is tried first, is kept: no word overflows, and it is not over the width
+  abbrev pub end_fits : W → Bool
+  end_fits ellipsis =
+      let trial = lay k m t p (Closing width ellipsis) Forward in
+      not trial.flagged && not (k.over_of m trial.width width)
+
   -- the first walk: forward on half the width, with no room for the ellipsis
   abbrev pub first_half : Lay W
   first_half = lay k m t p (Closing (k.half_of m width) (k.nil_of m)) Forward

@@ -1,8 +1,8 @@
 // The closing line with the ellipsis in its middle.
-ghost use Rattle.std.specs.Prelude.{◌≡◌, ◌+◌, ◌-◌, ◌^◌, ◌<◌, ◌≤◌, true, not, ◌&&◌, [], ◌++◌, length, take, drop, Some, slice_set};
+ghost use Rattle.std.specs.Prelude.{◌≡◌, ◌+◌, ◌-◌, ◌^◌, ◌<◌, ◌≤◌, true, [], ◌++◌, length, take, drop, if◌then◌else◌, Some, None, slice_set};
 ghost use Rattle.layout.specs.Elided.{elided_bytes};
 ghost use Rattle.layout.specs.Ellipsis.{ellipsis_range, first_of, level_between, paragraph_level};
-ghost use Rattle.layout.specs.Halves.{first_half, parted_line};
+ghost use Rattle.layout.specs.Halves.{end_fits, first_half, parted_line};
 ghost use Rattle.layout.specs.Lines.{ends_at, line_ranges, line_told, middle_line};
 ghost use Rattle.paragraph.specs.Reading.{exists};
 ghost use Rattle.paragraph.specs.Text.{Sound};
@@ -22,6 +22,7 @@ use paragraph::place::Position;
 use paragraph::tables::Tables;
 use walk::layout_spans::layout_spans;
 use walk::line::{LayoutDirection, Rule, VlRange, Walked};
+use walk::whole_ranges::put_whole;
 
 // Where a range ends in reading order.
 fn ends_at(tables: Tables<'_>, range: VlRange) -> Position
@@ -164,21 +165,25 @@ fn layout_halves<M: Measure>(
     )
 }
 
-// Whether the line fits as it does with the ellipsis last. A trial, so it writes nothing.
-fn end_fits<M: Measure>(
+// The walk with the ellipsis last, if the line fits so. A trial, so it writes nothing.
+fn try_end<M: Measure>(
     m: &M,
     tables: Tables<'_>,
     position: Position,
     width: M::Width,
     ellipsis: M::Width,
-) -> bool
+) -> Option<Walked<M::Width>>
     requires sound { Sound (lent tables) }
     requires stands { exists (lent tables) position ≡ true }
-    ensures { result ≡ (not (lay M.Measure m.now (lent tables.entry) position (Closing width ellipsis) Forward).flagged && not (M.Measure.over_of m.now (lay M.Measure m.now (lent tables.entry) position (Closing width ellipsis) Forward).width width)) }
+    ensures { result ≡ (if end_fits M.Measure m.now (lent tables.entry) position width ellipsis then Some (told (lay M.Measure m.now (lent tables.entry) position (Closing width ellipsis) Forward)) else None) }
 {
     let rule = Rule::Closing { width, ellipsis };
     let trial = layout_spans(m, tables, position, LayoutDirection::Forward, rule, &mut []);
-    !trial.flagged && !m.over(trial.width, width)
+    if !trial.flagged && !m.over(trial.width, width) {
+        Some(trial)
+    } else {
+        None
+    }
 }
 
 /// The line with the ellipsis in its middle, if it does not fit.
@@ -197,16 +202,17 @@ pub fn layout_middle<M: Measure>(
     ensures told { result ≡ line_told (lent tables.entry) none_before (middle_line M.Measure m.now (lent tables.entry) position width ellipsis) }
     ensures written { ranges.new ≡ line_ranges (middle_line M.Measure m.now (lent tables.entry) position width ellipsis) ++ drop result.ranges ranges.old }
 {
-    let forward = LayoutDirection::Forward;
-    if end_fits(m, tables, position, width, ellipsis) {
-        let rule = Rule::Closing { width, ellipsis };
-        return plain(layout_spans(m, tables, position, forward, rule, ranges));
+    if let Some(trial) = try_end(m, tables, position, width, ellipsis) {
+        // No word overflowed, so all that is ahead is on the line.
+        put_whole(tables, position, ranges);
+        return plain(trial);
     }
-    let half = Rule::Closing {
-        width: m.half(width),
+    let half = m.half(width);
+    let rule = Rule::Closing {
+        width: half,
         ellipsis: m.zero(),
     };
-    let first = layout_spans(m, tables, position, forward, half, ranges);
+    let first = layout_spans(m, tables, position, LayoutDirection::Forward, rule, ranges);
     if !first.flagged {
         return plain(first);
     }

@@ -9,13 +9,18 @@ use Rattle.layout.specs.Lines.{Line, line_ranges, line_told}
 use Rattle.layout.specs.declared.line.VisualLine.{VisualLine}
 use Rattle.layout.proofs.Closings.{plain_line, flagged_is, ranges_is}
 use Rattle.layout.proofs.Lists.{front_is, rest_further}
-use Rattle.layout.proofs.Middles.{half_is, middle_plain, middle_parted, parted_long}
+use Rattle.layout.proofs.Middles.{half_is, middle_kept, middle_plain, middle_parted, parted_long}
 use Rattle.layout.proofs.layout_middle.layout_middle.Goals as goal
+
+pub returns-in-Some : goal.returns-in-Some
+returns-in-Some g c =
+    let both = middle_kept g.M.Measure c.args.m.now (lent c.args.tables) c.args.position c.args.width c.args.ellipsis c.in-Some.trial c.in-Some.ensures c.args.none_before c.put_whole.result c.args.ranges.now c.put_whole.new.ranges c.plain.result c.plain.ensures c.put_whole.ensures.count (c.put_whole.ensures.written (omega (arith, c.requires.room))) in
+    record { told = both.0; written = both.1 }
 
 pub layout_halves-requires : goal.layout_halves-requires
 layout_halves-requires g c =
-    let is = half_is g.M.Measure c.args.m.now (lent c.args.tables) c.args.position c.args.width c.args.ellipsis c.half.result c.zero.result c.half.ensures c.zero.ensures in
-    let first = lay g.M.Measure c.args.m.now (lent c.args.tables) c.args.position (Closing c.half.result c.zero.result) Forward in
+    let is = half_is g.M.Measure c.args.m.now (lent c.args.tables) c.args.position c.args.width c.args.ellipsis c.half-half.result c.zero.result c.half-half.ensures c.zero.ensures in
+    let first = lay g.M.Measure c.args.m.now (lent c.args.tables) c.args.position (Closing c.half-half.result c.zero.result) Forward in
     let wr = c.layout_spans-first.ensures.written (omega (arith, c.requires.room)) in
     record {
       sound = c.requires.sound;
@@ -28,11 +33,11 @@ layout_halves-requires g c =
 
 pub returns-then-not-first : goal.returns-then-not-first
 returns-then-not-first g c =
-    let is = half_is g.M.Measure c.args.m.now (lent c.args.tables) c.args.position c.args.width c.args.ellipsis c.half.result c.zero.result c.half.ensures c.zero.ensures in
+    let is = half_is g.M.Measure c.args.m.now (lent c.args.tables) c.args.position c.args.width c.args.ellipsis c.half-half.result c.zero.result c.half-half.ensures c.zero.ensures in
     let half = first_half g.M.Measure c.args.m.now (lent c.args.tables) c.args.position c.args.width in
     let told_is = c.layout_spans-first.ensures.told ∙ ap told is in
     let wr = c.layout_spans-first.ensures.written (omega (arith, c.requires.room)) ∙ ap (λ (l : Lay _). l.ranges ++ drop c.layout_spans-first.result.ranges c.args.ranges.now) is in
-    let line_is = middle_plain g.M.Measure c.args.m.now (lent c.args.tables) c.args.position c.args.width c.args.ellipsis c.if-end_fits.ensures (flagged_is half c.layout_spans-first.result told_is _ c.if-not-first.true) in
+    let line_is = middle_plain g.M.Measure c.args.m.now (lent c.args.tables) c.args.position c.args.width c.args.ellipsis c.in_default.ensures (flagged_is half c.layout_spans-first.result told_is _ c.if-not-first.true) in
     let both = plain_line (lent c.args.tables) c.args.none_before half c.layout_spans-first.result c.plain-then-not-first.result c.args.ranges.now c.layout_spans-first.new.ranges told_is c.plain-then-not-first.ensures wr in
     record {
       told = both.0 ∙ ap (line_told (lent c.args.tables) c.args.none_before) (sym line_is);
@@ -41,11 +46,11 @@ returns-then-not-first g c =
 
 pub returns : goal.returns
 returns g c =
-    let is = half_is g.M.Measure c.args.m.now (lent c.args.tables) c.args.position c.args.width c.args.ellipsis c.half.result c.zero.result c.half.ensures c.zero.ensures in
+    let is = half_is g.M.Measure c.args.m.now (lent c.args.tables) c.args.position c.args.width c.args.ellipsis c.half-half.result c.zero.result c.half-half.ensures c.zero.ensures in
     let half = first_half g.M.Measure c.args.m.now (lent c.args.tables) c.args.position c.args.width in
     let told_is = c.layout_spans-first.ensures.told ∙ ap told is in
     let wr = c.layout_spans-first.ensures.written (omega (arith, c.requires.room)) ∙ ap (λ (l : Lay _). l.ranges ++ drop c.layout_spans-first.result.ranges c.args.ranges.now) is in
-    let line_is = middle_parted g.M.Measure c.args.m.now (lent c.args.tables) c.args.position c.args.width c.args.ellipsis c.if-end_fits.ensures (flagged_is half c.layout_spans-first.result told_is _ c.if-not-first.false) in
+    let line_is = middle_parted g.M.Measure c.args.m.now (lent c.args.tables) c.args.position c.args.width c.args.ellipsis c.in_default.ensures (flagged_is half c.layout_spans-first.result told_is _ c.if-not-first.false) in
     let line = parted_line g.M.Measure c.args.m.now (lent c.args.tables) c.args.position c.args.width c.args.ellipsis in
     let n_is = ranges_is half c.layout_spans-first.result told_is in
     let long = parted_long g.M.Measure c.args.m.now (lent c.args.tables) c.args.position c.args.width c.args.ellipsis in
