@@ -1,7 +1,7 @@
 #!/usr/bin/env python3
 """Runs random scripts of calls on random paragraphs through the program `strip`, and holds every answer against the plain model.
 
-Usage: compare_entries.py STRIP [SCRIPTS]   (STRIP is the program's path, as target/bin/strip; 200,000 scripts where no number is given)
+Usage: compare_entries.py STRIP [SCRIPTS]   (STRIP is the program's path, as crates/strip/out/strip; 200,000 scripts where no number is given)
 """
 
 import random

@@ -4,7 +4,7 @@
 Every single fault and every pairing of two, at the first row, the last and one between; tables at their limits and one row past them; empty tables, and
 empty words and spans at the ends.
 
-Usage: compare_tables.py STRIP   (the program's path, as target/bin/strip)
+Usage: compare_tables.py STRIP   (the program's path, as crates/strip/out/strip)
 """
 
 import itertools
