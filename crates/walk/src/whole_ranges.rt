@@ -1,7 +1,6 @@
 // The ranges of all that is ahead.
-ghost use Rattle.std.specs.Prelude.{◌≡◌, ◌-◌, ◌≤◌, true, ◌++◌, length, drop};
+ghost use Rattle.std.specs.Prelude.{◌≡◌, ◌-◌, ◌≤◌, ◌++◌, length, drop};
 ghost use Rattle.paragraph.specs.Lent.{lent};
-ghost use Rattle.paragraph.specs.Reading.{exists};
 ghost use Rattle.paragraph.specs.Text.{Sound};
 ghost use Rattle.walk.specs.Whole.{whole_ranges};
 
@@ -16,10 +15,9 @@ use paragraph::tables::Tables;
 ///
 /// Every place beyond is left as it is. A list with a place for each span from the position's on has room for them.
 ///
-/// An inner function: the calls above it have checked the tables and the position.
+/// An inner function: the calls above it have checked the tables. Any position will do.
 pub fn put_whole(tables: Tables<'_>, position: Position, ranges: &mut [VlRange]) -> usize
     requires sound { Sound (lent tables) }
-    requires stands { exists (lent tables) position ≡ true }
     ensures count { result ≡ length (whole_ranges (lent tables.entry) position) }
     ensures written { length tables.entry.spans.now - position.span ≤ length ranges.old → ranges.new ≡ whole_ranges (lent tables.entry) position ++ drop result ranges.old }
 {
