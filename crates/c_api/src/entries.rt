@@ -1,14 +1,12 @@
 // Entries over paragraphs that are made up here, to be timed: only numbers cross, and nothing is to be compared with.
+use crate::plain::mode_of;
 use entry::entry::Entry;
 use glyph::glyph::Glyph;
-use layout::line::Ellipsize;
 use measure::points::Points;
 use paragraph::check::check;
-use paragraph::direction::Direction;
 use paragraph::paragraph::Paragraph;
-use paragraph::place::Place;
 use paragraph::span::Span;
-use paragraph::tables::Tables;
+use paragraph::tables::OwnedTables;
 use paragraph::word::Word;
 use std::alloc::{AllocError, Global};
 use walk::line::VlRange;
@@ -23,14 +21,6 @@ const EM: Glyph = Glyph {
     cells: 1,
 };
 
-// What a list of ranges holds before a line is written to it.
-const NO_RANGE: VlRange = VlRange {
-    span: None,
-    start: Place { word: 0, glyph: 0 },
-    end: Place { word: 0, glyph: 0 },
-    level: 0,
-};
-
 /// How large a made-up paragraph is: `spans` spans at levels 0 and 1 in turn, each of `words` words, of which every other one is blank, each of
 /// `glyphs` glyphs of one em.
 #[repr(C)]
@@ -43,6 +33,7 @@ pub struct Extent {
 
 /// What is done with an entry: lines of a width taken, up to so many, and then a closing line of the same width by a mode (0 none, 1 start, 2 middle, 3 end),
 /// or no closing line (any other number).
+// C has no enums, so that a number stands for the mode.
 #[repr(C)]
 #[derive(Clone, Copy)]
 pub struct Calls {
@@ -51,94 +42,46 @@ pub struct Calls {
     pub mode: u8,
 }
 
-#[derive(Drop)]
-struct MadeUp {
-    glyphs: Vec<Glyph>,
-    words: Vec<Word>,
-    spans: Vec<Span>,
-    ellipsis: Vec<Glyph>,
-}
-
-fn make_up(heap: Global, extent: &Extent) -> Result<MadeUp, AllocError> {
-    let mut glyphs = Vec::new(heap);
-    let mut words = Vec::new(heap);
-    let mut spans = Vec::new(heap);
+fn make_up(heap: Global, extent: &Extent) -> Result<OwnedTables, AllocError> {
+    let mut made = OwnedTables::new(heap);
     for s in 0..extent.spans {
-        let first_word = words.len();
+        let first_word = made.words.len();
         for w in 0..extent.words {
-            let first_glyph = glyphs.len();
+            let first_glyph = made.glyphs.len();
             for _ in 0..extent.glyphs {
-                glyphs.push(EM)?;
+                made.glyphs.push(EM)?;
             }
-            words.push(Word {
+            made.words.push(Word {
                 blank: w % 2 == 1,
                 offset: first_glyph,
                 len: extent.glyphs,
             })?;
         }
-        spans.push(Span {
-            level: if s % 2 == 1 { 1 } else { 0 },
+        made.spans.push(Span {
+            level: u8::from(s % 2 == 1),
             offset: first_word,
             len: extent.words,
         })?;
     }
-    let mut ellipsis = Vec::new(heap);
-    ellipsis.push(EM)?;
-    Ok(MadeUp {
-        glyphs,
-        words,
-        spans,
-        ellipsis,
-    })
+    made.ellipsis.push(EM)?;
+    Ok(made)
 }
 
-fn mode_of(code: u8) -> Option<Ellipsize> {
-    match code {
-        0 => Some(Ellipsize::None),
-        1 => Some(Ellipsize::Start),
-        2 => Some(Ellipsize::Middle),
-        3 => Some(Ellipsize::End),
-        _ => None,
-    }
-}
-
-fn check_tables(made: &MadeUp, times: usize) -> usize {
-    let tables = Tables {
-        glyphs: &made.glyphs,
-        words: &made.words,
-        spans: &made.spans,
-        direction: Direction::LeftToRight,
-    };
-    let mut sound: usize = 0;
-    for _ in 0..times {
-        if check(tables, &made.ellipsis).is_ok() {
-            sound = sound.wrapping_add(1);
-        }
-    }
-    sound
+fn check_tables(made: &OwnedTables, times: usize) -> usize {
+    (0..times)
+        .filter(|_| check(made.lent(), &made.ellipsis).is_ok())
+        .count()
 }
 
 /// Makes a paragraph's tables up and checks them `times` times over. Answers how often they were sound.
 #[unsafe(no_mangle)]
 pub extern "C" fn cudinstant_check_often(heap: Global, extent: &Extent, times: usize) -> usize {
-    match make_up(heap, extent) {
-        Ok(made) => check_tables(&made, times),
-        Err(_) => 0,
-    }
+    make_up(heap, extent).map_or(0, |made| check_tables(&made, times))
 }
 
-fn open(paragraph: &mut Paragraph, made: MadeUp) -> Option<Entry<Points>> {
+fn open(paragraph: &mut Paragraph, made: OwnedTables) -> Option<Entry<Points>> {
     let points = Points::new(1.0).ok()?;
-    Entry::open(
-        paragraph,
-        made.glyphs,
-        made.words,
-        made.spans,
-        made.ellipsis,
-        Direction::LeftToRight,
-        points,
-    )
-    .ok()
+    Entry::open(paragraph, made, points).ok()
 }
 
 fn make_calls(
@@ -161,19 +104,15 @@ fn make_calls(
 /// Makes a paragraph's tables up, opens an entry on them, makes the calls, and answers how many glyphs stand on its lines.
 #[unsafe(no_mangle)]
 pub extern "C" fn cudinstant_lay_entry(heap: Global, extent: &Extent, calls: &Calls) -> usize {
-    let mut paragraph = Paragraph::empty(heap);
-    let made = match make_up(heap, extent) {
-        Ok(made) => made,
-        Err(_) => return 0,
+    let Ok(made) = make_up(heap, extent) else {
+        return 0;
     };
-    match open(&mut paragraph, made) {
-        Some(opened) => {
-            let mut entry = opened;
-            let mut ranges = [NO_RANGE; 258];
-            let mut order = [0; 258];
-            make_calls(&mut entry, &paragraph, calls, &mut ranges, &mut order);
-            entry.tally().laid
-        }
-        None => 0,
-    }
+    let mut paragraph = Paragraph::empty(heap);
+    let Some(mut entry) = open(&mut paragraph, made) else {
+        return 0;
+    };
+    let mut ranges = [VlRange::default(); 258];
+    let mut order = [0; 258];
+    make_calls(&mut entry, &paragraph, calls, &mut ranges, &mut order);
+    entry.tally().laid
 }

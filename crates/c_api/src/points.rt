@@ -8,17 +8,16 @@ ghost use Rattle.std.specs.Prelude.{◌≡◌, cond, if◌then◌else◌};
 use glyph::glyph::Glyph;
 use measure::measure::Measure;
 use measure::points::Points;
+use refusals::Cause;
 
 // What does not look at the size is asked of any points.
 fn any_points() -> Points {
-    match Points::new(0.0) {
-        Ok(points) => points,
-        Err(_) => unreachable(),
-    }
+    Points::new(0.0).unwrap()
 }
 
 /// The width of a glyph with an advance, and a size of its own if it has one, at a size. Answers 0 and writes the width; or answers the refusal's
 /// number, and writes nothing.
+// C has no options, so that a flag stands beside the size.
 #[unsafe(no_mangle)]
 pub extern "C" fn cudinstant_points_width(
     size: f32,
@@ -32,12 +31,11 @@ pub extern "C" fn cudinstant_points_width(
 {
     match Points::new(size) {
         Ok(points) => {
-            let own_size = if has_own { Some(own) } else { None };
             *width = points.width(&Glyph {
                 start: 0,
                 end: 0,
                 advance,
-                size: own_size,
+                size: has_own.then_some(own),
                 units: 0,
                 cells: 0,
             });

@@ -16,11 +16,12 @@ use Rattle.layout_laws.proofs.Every.{every_line, every_taken_line}
 use Rattle.layout_laws.proofs.Ranges.{line_shows}
 use Rattle.measure.specs.declared.measure.Measure.{Ghosts}
 use Rattle.paragraph.proofs.Fitting.{fits}
-use Rattle.paragraph.proofs.Holding.{its_sound}
+use Rattle.paragraph.specs.Aheads.{text_at}
 use Rattle.paragraph.specs.Holds.{text_of}
 use Rattle.paragraph.specs.Laws.{ReadingLaws}
 use Rattle.paragraph.specs.Reading.{ahead, exists, reading}
 use Rattle.paragraph.specs.Text.{Sound, Text}
+use Rattle.paragraph.specs.declared.ahead.Ahead.{Ahead}
 use Rattle.paragraph.specs.declared.paragraph.Paragraph.{Paragraph}
 use Rattle.paragraph.specs.declared.place.Position.{Position}
 use Rattle.walk.specs.Walk.{lay}
@@ -33,7 +34,7 @@ use Rattle.walk_laws.specs.Shown.{shown}
 pub begins_on : {S : Type 0} (p : Paragraph) (m : S) (e : Entry S) → measure_of e ≡ m → progress_of e ≡ begun (text_of p) → Begins p m e
 begins_on p m e same is =
     let t = text_of p in
-    let laws = fits t (its_sound p) in
+    let laws = fits t p.sound in
     let place = ap (λ (q : Progress). q.position) is in
     record {
       measure_is = same;
@@ -69,15 +70,6 @@ module _ (t : Text) (sound : Sound t) (p : Position) (here : exists t p ≡ true
   stands_there left = (laws.before (length t.glyphs - left)).there
 
 module _ {S W : Type 0} (k : Ghosts S W) (m : S) (t : Text) (sound : Sound t) (p : Position) (here : exists t p ≡ true) where
-  -- a line that is taken has no more glyphs than are ahead, and one if one is
-  pub taken_most : (w : W) → (lay k m t p (Taking w) Forward).laid ≤ length (ahead t p)
-  taken_most w =
-      let law = every_taken_line k m t p w sound here in
-      omega (arith, law.counted, ap length law.parted, length-append (shown t (lay k m t p (Taking w) Forward).ranges) law.left)
-
-  pub taken_some : (w : W) → 0 < length (ahead t p) → 0 < (lay k m t p (Taking w) Forward).laid
-  taken_some w = (every_taken_line k m t p w sound here).one_shown
-
   closing_counts : (ellipsize : Ellipsize) (w : Option W) (e : W) →
       let l = closing_line k m t p ellipsize w e in
       length (ahead t p) ≡ l.laid + length (every_line k m t p ellipsize w e sound here).hidden
@@ -94,31 +86,45 @@ module _ {S W : Type 0} (k : Ghosts S W) (m : S) (t : Text) (sound : Sound t) (p
         length-append law.hidden (shown t l.back),
       )
 
-  -- a closing line has two ranges at most more than there are spans
-  pub closing_few : (ellipsize : Ellipsize) (w : Option W) (e : W) (told : VisualLine W) → told ≡ line_told t 0 (closing_line k m t p ellipsize w e) → told.ranges ≤ length t.spans + 2
-  closing_few ellipsize w e told is = omega (arith, ap (λ (v : VisualLine W). v.ranges) is, (every_line k m t p ellipsize w e sound here).few)
+module _ {S W : Type 0} (k : Ghosts S W) (m : S) (a : Ahead) where
+  -- a line that is taken has a glyph if one is ahead, and no more than are ahead
+  pub taken_some : (w : W) → 0 < length (ahead (text_at a) a.position) → 0 < (taken_line k m (text_at a) a.position w).laid
+  taken_some w = (every_taken_line k m (text_at a) a.position w a.tables.sound a.stands).one_shown
 
-  pub closing_most : (ellipsize : Ellipsize) (w : Option W) (e : W) → (closing_line k m t p ellipsize w e).laid ≤ length (ahead t p)
-  closing_most ellipsize w e = omega (arith, closing_counts ellipsize w e)
+  pub taken_within : (w : W) → (taken_line k m (text_at a) a.position w).laid ≤ length (ahead (text_at a) a.position)
+  taken_within w =
+      let l = lay k m (text_at a) a.position (Taking w) Forward in
+      let law = every_taken_line k m (text_at a) a.position w a.tables.sound a.stands in
+      omega (arith, law.counted, ap length law.parted, length-append (shown (text_at a) l.ranges) law.left)
 
-module _ {S W : Type 0} (k : Ghosts S W) (m : S) (t : Text) (sound : Sound t) (q : Progress) (here : exists t q.position ≡ true) (left_is : length (ahead t q.position) ≡ q.tally.left) where
+  -- a closing line has two ranges at most more than there are spans, and no more glyphs than are ahead
+  pub closing_few : (ellipsize : Ellipsize) (w : Option W) (e : W) (told : VisualLine W) → told ≡ line_told (text_at a) 0 (closing_line k m (text_at a) a.position ellipsize w e) →
+      told.ranges ≤ length (text_at a).spans + 2
+  closing_few ellipsize w e told is =
+      omega (arith, ap (λ (v : VisualLine W). v.ranges) is, (every_line k m (text_at a) a.position ellipsize w e a.tables.sound a.stands).few)
+
+  pub closing_within : (ellipsize : Ellipsize) (w : Option W) (e : W) → (closing_line k m (text_at a) a.position ellipsize w e).laid ≤ length (ahead (text_at a) a.position)
+  closing_within ellipsize w e = omega (arith, closing_counts k m (text_at a) a.tables.sound a.position a.stands ellipsize w e)
+
+module _ {S W : Type 0} (k : Ghosts S W) (m : S) (a : Ahead) (q : Progress) (here : a.position ≡ q.position) (left_is : length (ahead (text_at a) a.position) ≡ q.tally.left) where
   pub take_continues : (w : W) (os : List ℕ) → 0 < q.tally.left →
-      let l = taken_line k m t q.position w in
-      InVisualOrder (line_ranges l) os → Takes t q (after_take q (standing t (q.tally.left - l.laid)) l.laid) (line_ranges l) os
+      let l = taken_line k m (text_at a) a.position w in
+      InVisualOrder (line_ranges l) os → Takes (text_at a) q (after_take q (standing (text_at a) (q.tally.left - l.laid)) l.laid) (line_ranges l) os
   take_continues w os some ordered =
-      let p = q.position in
+      let t = text_at a in
+      let p = a.position in
       let l = lay k m t p (Taking w) Forward in
       let at = standing t (q.tally.left - l.laid) in
       let shows = shown t l.ranges in
-      let law = every_taken_line k m t p w sound here in
+      let law = every_taken_line k m t p w a.tables.sound a.stands in
       let long = ap length law.parted ∙ length-append shows law.left in
       let place : length (ahead t p) - length shows ≡ q.tally.left - l.laid = omega (arith, law.counted) in
-      let behind : ahead t at ≡ law.left = ap (λ (n : ℕ). ahead t (standing t n)) (sym place) ∙ stands_behind t sound p here shows law.left law.parted in
+      let behind : ahead t at ≡ law.left = ap (λ (n : ℕ). ahead t (standing t n)) (sym place) ∙ stands_behind t a.tables.sound p a.stands shows law.left law.parted in
       let plain_is : line_ranges (plain l) ≡ l.ranges = append-nil l.ranges in
       subst (λ (rs : List VlRange). Takes t q (after_take q at l.laid) rs os) (sym plain_is)
       (record {
-        goes_on = law.parted ∙ ap (λ (is : List ℕ). shows ++ is) (sym behind);
-        stands = stands_there t sound p here (q.tally.left - l.laid);
+        goes_on = ap (ahead t) (sym here) ∙ law.parted ∙ ap (λ (is : List ℕ). shows ++ is) (sym behind);
+        stands = stands_there t a.tables.sound p a.stands (q.tally.left - l.laid);
         some_shown = omega (arith, law.one_shown (omega arith), law.counted);
         each_once = law.once;
         lines_are = refl;
@@ -131,18 +137,19 @@ module _ {S W : Type 0} (k : Ghosts S W) (m : S) (t : Text) (sound : Sound t) (q
       })
 
   pub close_continues : (ellipsize : Ellipsize) (w : Option W) (e : W) (os : List ℕ) →
-      let l = closing_line k m t q.position ellipsize w e in
-      InVisualOrder (line_ranges l) os → Closes t q (after_close q l.laid) (line_ranges l) os
+      let l = closing_line k m (text_at a) a.position ellipsize w e in
+      InVisualOrder (line_ranges l) os → Closes (text_at a) q (after_close q l.laid) (line_ranges l) os
   close_continues ellipsize w e os ordered =
-      let p = q.position in
+      let t = text_at a in
+      let p = a.position in
       let l = closing_line k m t p ellipsize w e in
-      let law = every_line k m t p ellipsize w e sound here in
-      let count = closing_counts k m t sound p here ellipsize w e in
+      let law = every_line k m t p ellipsize w e a.tables.sound a.stands in
+      let count = closing_counts k m t a.tables.sound p a.stands ellipsize w e in
       record {
         front = shown t l.front;
         hides = law.hidden;
         back = shown t l.back;
-        parted = law.parted;
+        parted = ap (ahead t) (sym here) ∙ law.parted;
         shows = line_shows t l;
         each_once = law.once;
         lines_are = refl;

@@ -1,4 +1,3 @@
 pub mod Verdicts
-pub mod Orders
 pub mod Answering
 pub mod Continuing

@@ -1,14 +1,16 @@
 -- When a line may be laid
 use Rattle.std.specs.Prelude.{◌≡◌, ℕ, ◌+◌, ◌<◌, ◌≤◌, Bool, true, false, cond, length, is_ok, Some, None, Ok, Err, Option, Result}
-use Rattle.entry.specs.declared.fault.CallFault.{CallFault}
+use Rattle.entry.specs.Faults.{CallFault}
 use Rattle.entry.specs.declared.progress.Progress.{Progress}
 use Rattle.paragraph.specs.Reading.{ahead, exists}
 use Rattle.paragraph.specs.Text.{Text}
+use Rattle.paragraph.specs.declared.ahead.Ahead.{Ahead}
+use Rattle.paragraph.specs.declared.tables.SoundTables.{SoundTables}
 
--- a check answers the fault that it found, if any
-abbrev pub checked : Option CallFault → Result (Unit {0}) CallFault
-checked None = Ok tt
-checked (Some f) = Err f
+-- a check answers the fault that it found, if any, and else what is ahead of the entry's position in the lent tables
+abbrev pub Checks : SoundTables → Progress → Option CallFault → Result Ahead CallFault → Type 0
+Checks tables q found (Ok a) = (found ≡ None) × (a.tables ≡ tables) × (a.position ≡ q.position)
+Checks tables q found (Err f) = found ≡ Some f
 
 -- a check for one fault
 abbrev pub refused_if : Bool → CallFault → Result (Unit {0}) CallFault

@@ -14,7 +14,7 @@ use Rattle.measure.specs.Rows.{row_width}
 use Rattle.measure.specs.declared.measure.Measure.{Ghosts}
 use Rattle.paragraph.specs.Holds.{ellipsis_of, text_of}
 use Rattle.paragraph.specs.Reading.{ahead, exists, reading}
-use Rattle.paragraph.specs.declared.fault.TableFault.{TableFault}
+use Rattle.paragraph.specs.Faults.{TableFault}
 use Rattle.paragraph.specs.declared.paragraph.Paragraph.{Paragraph}
 use Rattle.walk.specs.declared.line.VlRange.{VlRange}
 

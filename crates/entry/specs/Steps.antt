@@ -4,7 +4,7 @@ use Rattle.entry.specs.Lines.{taken_line, order_of, after_take, after_close}
 use Rattle.entry.specs.Verdict.{line_verdict, take_verdict}
 use Rattle.entry.specs.declared.call.Call.{Call}
 use Rattle.entry.specs.declared.call.Call.TheVariants.{Take, Close, Count}
-use Rattle.entry.specs.declared.fault.CallFault.{CallFault}
+use Rattle.entry.specs.Faults.{CallFault}
 use Rattle.entry.specs.declared.progress.Progress.{Progress}
 use Rattle.entry.specs.declared.progress.Tally.{Tally}
 use Rattle.layout.specs.Lines.{Line, line_ranges, line_told, closing_line}

@@ -1,8 +1,7 @@
 -- Which calls on an entry are refused, and why
 use Rattle.std.specs.Prelude.{ℕ, ◌+◌, Bool, cond, not, ◌&&◌, length, Some, None, Option, ◌==◌, nat_lt}
-use Rattle.entry.specs.Faults.{fault}
+use Rattle.entry.specs.Faults.{CallFault, fault}
 use Rattle.entry.specs.declared.fault.CallCause.TheVariants as cause
-use Rattle.entry.specs.declared.fault.CallFault.{CallFault}
 use Rattle.entry.specs.declared.fault.CallTable.TheVariants as table
 use Rattle.entry.specs.declared.progress.Progress.{Progress}
 use Rattle.paragraph.specs.Reading.{ahead, exists}

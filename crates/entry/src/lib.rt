@@ -16,3 +16,5 @@ pub mod fault;
 mod lines;
 mod order;
 pub mod progress;
+
+pub use refusals::Cause;

@@ -13,5 +13,5 @@ pub(crate) fn write_order(ranges: &[VlRange], order: &mut [usize])
     ensures list { order.new ≡ over_written (order_of ranges.now) order.old }
     ensures in_order { InVisualOrder ranges.now (order_of ranges.now) }
 {
-    let _ = reorder(ranges, order);
+    reorder(ranges, order).unwrap();
 }

@@ -1,14 +1,14 @@
 // How far an entry has come.
-ghost use Rattle.std.specs.Prelude.{◌≡◌, ◌+◌, ◌-◌, ◌^◌, ◌<◌, ◌≤◌, length};
 ghost use Rattle.entry.specs.Lines.{after_close, after_take};
 ghost use Rattle.entry.specs.Steps.{begun, standing};
-ghost use Rattle.paragraph.specs.Holds.{text_of};
+ghost use Rattle.paragraph.specs.Lent.{lent};
+ghost use Rattle.std.specs.Prelude.{◌≡◌, ◌+◌, ◌-◌, ◌^◌, ◌<◌, ◌≤◌, length};
 
-use paragraph::paragraph::Paragraph;
 use paragraph::place::Position;
+use paragraph::tables::SoundTables;
 
 /// How many lines were laid, how many glyphs stand on them, how many the closing line hid, and how many are ahead now.
-#[derive(Clone, Copy)]
+#[derive(Clone, Copy, PartialEq, Eq, Default, Debug)]
 pub struct Tally {
     pub lines: usize,
     pub laid: usize,
@@ -17,53 +17,45 @@ pub struct Tally {
 }
 
 /// All that calls change of an entry, as one record.
-#[derive(Clone, Copy)]
+#[derive(Clone, Copy, PartialEq, Eq, Debug)]
 pub struct Progress {
     pub position: Position,
     pub tally: Tally,
     pub closed: bool,
 }
 
-fn glyph_count(paragraph: &Paragraph) -> usize
-    ensures { result ≡ length (text_of paragraph.now).glyphs }
-{
-    paragraph.tables().glyphs.len()
-}
-
 impl Progress {
     /// At the beginning of a paragraph.
-    pub(crate) fn begin(paragraph: &Paragraph) -> Progress
-        ensures { result ≡ begun (text_of paragraph.now) }
+    pub(crate) fn begin(tables: SoundTables<'_>) -> Progress
+        ensures { result ≡ begun (lent tables.entry.rows) }
     {
         Progress {
-            position: paragraph.begin(),
+            position: tables.begin(),
             tally: Tally {
-                lines: 0,
-                laid: 0,
-                hidden: 0,
-                left: glyph_count(paragraph),
+                left: tables.rows.glyphs.len(),
+                ..Tally::default()
             },
             closed: false,
         }
     }
 
     /// After a line of `laid` glyphs was taken. The position is just before the next glyph.
-    pub(crate) fn after_take(self, paragraph: &Paragraph, laid: usize) -> Progress
+    pub(crate) fn after_take(self, tables: SoundTables<'_>, laid: usize) -> Progress
         requires some { laid ≤ self.tally.left }
-        requires in_text { self.tally.left ≤ length (text_of paragraph.now).glyphs }
+        requires in_text { self.tally.left ≤ length (lent tables.rows).glyphs }
         requires few_lines { self.tally.lines < 2 ^ 32 }
         requires few_glyphs { self.tally.laid < 2 ^ 32 }
-        ensures { result ≡ after_take self (standing (text_of paragraph.now) (self.tally.left - laid)) laid }
+        ensures { result ≡ after_take self (standing (lent tables.entry.rows) (self.tally.left - laid)) laid }
     {
         let tally = self.tally;
         let left = tally.left - laid;
         Progress {
-            position: paragraph.position_before(glyph_count(paragraph) - left),
+            position: tables.position_before(tables.rows.glyphs.len() - left),
             tally: Tally {
                 lines: tally.lines + 1,
                 laid: tally.laid + laid,
-                hidden: tally.hidden,
                 left,
+                ..tally
             },
             closed: false,
         }
@@ -78,7 +70,6 @@ impl Progress {
     {
         let tally = self.tally;
         Progress {
-            position: self.position,
             tally: Tally {
                 lines: tally.lines + 1,
                 laid: tally.laid + laid,
@@ -86,6 +77,7 @@ impl Progress {
                 left: 0,
             },
             closed: true,
+            ..self
         }
     }
 }

@@ -28,10 +28,7 @@ pub fn size_in_range(size: f32) -> bool
 fn own_size_in_range(size: Option<f32>) -> bool
     ensures { result ≡ own_size_in size }
 {
-    match size {
-        Some(own) => size_in_range(own),
-        None => true,
-    }
+    size.is_none_or(size_in_range)
 }
 
 impl Glyph {

@@ -1,21 +1,22 @@
 -- Lines with an ellipsis, and what is told of them
-use Rattle.std.proofs.Common.{◌≡◌, ℕ, ◌+◌, ◌-◌, ◌<◌, Bool, true, List, [], ◌∷◌, ◌++◌, length, take, drop, set, Some, None, Option, sym, refl, ap, ◌∙◌, append-nil, arith}
-use Rattle.std.proofs.lemmas.List.{length-append, append_assoc}
+use Rattle.std.proofs.Common.{◌≡◌, ℕ, ◌+◌, Bool, true, List, ◌∷◌, ◌++◌, length, take, drop, Some, None, Option, sym, refl, ap, ◌∙◌, append-nil, arith}
+use Rattle.std.proofs.lemmas.List.{length-append}
 use Rattle.std.proofs.lemmas.Bool.{cond-true}
 use Rattle.measure.specs.declared.measure.Measure.{Ghosts}
 use Rattle.layout.specs.Elided.{elided_bytes}
-use Rattle.layout.specs.Ellipsis.{ellipsis_range, first_of, last_of, level_between}
-use Rattle.layout.specs.Lines.{Line, line_ranges, line_told, ellipsis_ranges, elided_of, plain, end_line, start_line}
+use Rattle.layout.specs.Ellipsis.{behind_of, before_of, ellipsis_range, first_of, last_of, level_between}
+use Rattle.layout.specs.Lines.{Line, line_ranges, line_told, ellipsis_ranges, elided_of, plain, edge_line}
 use Rattle.layout.specs.declared.line.ElidedBytes.{ElidedBytes}
 use Rattle.layout.specs.declared.line.VisualLine.{VisualLine}
 use Rattle.paragraph.specs.Text.{Text}
 use Rattle.paragraph.specs.declared.place.Position.{Position}
 use Rattle.walk.specs.Walk.{Lay, lay, told}
+use Rattle.walk.specs.declared.line.LayoutDirection.{LayoutDirection}
 use Rattle.walk.specs.declared.line.LayoutDirection.TheVariants.{Forward, Backward}
 use Rattle.walk.specs.declared.line.Rule.TheVariants.{Closing}
 use Rattle.walk.specs.declared.line.VlRange.{VlRange}
 use Rattle.walk.specs.declared.line.Walked.{Walked}
-use Rattle.layout.proofs.Lists.{front_is, rest_is, set_behind}
+use Rattle.layout.proofs.Lists.{front_is, rest_is}
 
 -- what is told of a line with the ellipsis
 pub marked_told : {W : Type 0} (t : Text) (none : ℕ) (l : Line W) (level count blanks laid : ℕ) (x : W) (el : ElidedBytes) → l.ellipsis ≡ Some level → count ≡ length l.front + (1 + length l.back) → blanks ≡ l.blanks → laid ≡ l.laid → x ≡ l.width → el ≡ elided_bytes t none l.front l.back → record { ranges = count; blanks = blanks; laid = laid; width = x; elided = Some el } ≡ line_told t none l
@@ -53,74 +54,54 @@ plain_line {W} t none l w r before out is r_is written =
     let q : w.ranges ≡ r.ranges = sym (ap (λ (y : VisualLine W). y.ranges) r_is) in
     (cc, written ∙ ap (λ (i : ℕ). l.ranges ++ drop i before) q ∙ ap (λ (rs : List VlRange). rs ++ drop r.ranges before) (sym a))
 
-module _ {S W : Type 0} (k : Ghosts S W) (m : S) (t : Text) (p : Position) (width ellipsis : W) (none : ℕ) (w : Walked W) (before out : List VlRange) (flagged : w.flagged ≡ true) (room : w.ranges < length before) (level : ℕ) (x : W) (x_is : x ≡ k.sum_of m w.width ellipsis) (el : ElidedBytes) where
-  module _
-      (is : w ≡ told (lay k m t p (Closing width ellipsis) Forward)) (written : out ≡ (lay k m t p (Closing width ellipsis) Forward).ranges ++ drop w.ranges before)
-      (level_is : level ≡ level_between t.direction (last_of (take (w.ranges - 0) out)) None) (el_is : el ≡ elided_bytes t none (take (w.ranges - 0) out) [])
-    where
-      l : Lay W
-      l = lay k m t p (Closing width ellipsis) Forward
+-- a line with the ellipsis where its walk ended
+module _ {S W : Type 0} (k : Ghosts S W) (m : S) (t : Text) (p : Position) (width ellipsis : W) where
+  abbrev edged : LayoutDirection → Line W
+  edged way =
+      let l = lay k m t p (Closing width ellipsis) way in
+      record {
+        front = before_of way l.ranges;
+        ellipsis = Some (level_between t.direction (last_of (before_of way l.ranges)) (first_of (behind_of way l.ranges)));
+        back = behind_of way l.ranges;
+        blanks = l.blanks;
+        laid = l.laid;
+        width = k.sum_of m l.width ellipsis;
+      }
 
-      line : Line W
-      line = record { front = l.ranges; ellipsis = Some (level_between t.direction (last_of l.ranges) None); back = []; blanks = l.blanks; laid = l.laid; width = k.sum_of m l.width ellipsis }
+  edge_is : (way : LayoutDirection) → (lay k m t p (Closing width ellipsis) way).flagged ≡ true → edge_line k m t p width ellipsis way ≡ edged way
+  edge_is Forward e = cond-true _ _ _ e
+  edge_is Backward e = cond-true _ _ _ e
 
-      line_is : end_line k m t p width ellipsis ≡ line
-      unfolding line l
-      line_is = cond-true l.flagged line (plain l) (flagged_is l w is true flagged)
+  edge_long : (way : LayoutDirection) (rs : List VlRange) → length rs + 1 ≡ length (before_of way rs) + (1 + length (behind_of way rs))
+  edge_long Forward rs = omega arith
+  edge_long Backward rs = omega arith
 
-      end_told : record { ranges = w.ranges + 1; blanks = w.blanks; laid = w.laid; width = x; elided = Some el } ≡ line_told t none (end_line k m t p width ellipsis)
-      unfolding line l
-      end_told =
-          let f = front_is l.ranges before out w.ranges (ranges_is l w is) written in
-          marked_told t none line _ (w.ranges + 1) w.blanks w.laid x el refl (omega (arith, ranges_is l w is)) (blanks_is l w is) (laid_is l w is)
-          (x_is ∙ ap (λ (y : W). k.sum_of m y ellipsis) (width_is l w is)) (el_is ∙ ap (λ (rs : List VlRange). elided_bytes t none rs []) f)
-          ∙ ap (line_told t none) (sym line_is)
+  module _ (way : LayoutDirection) (none : ℕ) (w : Walked W) (before out : List VlRange) (is : w ≡ told (lay k m t p (Closing width ellipsis) way)) (written : out ≡ (lay k m t p (Closing width ellipsis) way).ranges ++ drop w.ranges before) (flagged : w.flagged ≡ true) where
+    l : Lay W
+    l = lay k m t p (Closing width ellipsis) way
 
-      end_written : set out w.ranges (ellipsis_range level) ≡ line_ranges (end_line k m t p width ellipsis) ++ drop (w.ranges + 1) before
-      unfolding line l
-      end_written =
-          let f = front_is l.ranges before out w.ranges (ranges_is l w is) written in
-          let e : level ≡ level_between t.direction (last_of l.ranges) None = level_is ∙ ap (λ (rs : List VlRange). level_between t.direction (last_of rs) None) f in
-          set_behind l.ranges before out w.ranges (ellipsis_range level) (ranges_is l w is) room written
-          ∙ ap (λ (n : ℕ). l.ranges ++ ellipsis_range n ∷ drop (w.ranges + 1) before) e
-          ∙ sym (append_assoc l.ranges (ellipsis_range (level_between t.direction (last_of l.ranges) None) ∷ []) (drop (w.ranges + 1) before))
-          ∙ ap (λ (y : Line W). line_ranges y ++ drop (w.ranges + 1) before) (sym line_is)
+    line_is : edge_line k m t p width ellipsis way ≡ edged way
+    unfolding l
+    line_is = edge_is way (flagged_is l w is true flagged)
 
-      pub end_marked : (e : VlRange) → e ≡ ellipsis_range level → (record { ranges = w.ranges + 1; blanks = w.blanks; laid = w.laid; width = x; elided = Some el } ≡ line_told t none (end_line k m t p width ellipsis)) × (set out w.ranges e ≡ line_ranges (end_line k m t p width ellipsis) ++ drop (w.ranges + 1) before)
-      end_marked e e_is = (end_told, ap (set out w.ranges) e_is ∙ end_written)
+    laid_there : take w.ranges out ≡ l.ranges
+    unfolding l
+    laid_there = front_is l.ranges before out w.ranges (ranges_is l w is) written
 
-  module _
-      (is : w ≡ told (lay k m t p (Closing width ellipsis) Backward)) (written : out ≡ (lay k m t p (Closing width ellipsis) Backward).ranges ++ drop w.ranges before)
-      (level_is : level ≡ level_between t.direction None (first_of (take (w.ranges - 0) out))) (el_is : el ≡ elided_bytes t none [] (take (w.ranges - 0) out))
-    where
-      l_back : Lay W
-      l_back = lay k m t p (Closing width ellipsis) Backward
+    pub edge_told : (el : ElidedBytes) (x : W) (r : VisualLine W) → el ≡ elided_bytes t none (before_of way (take w.ranges out)) (behind_of way (take w.ranges out)) → x ≡ k.sum_of m w.width ellipsis → r ≡ record { ranges = w.ranges; blanks = w.blanks; laid = w.laid; width = w.width; elided = None } →
+        record { ranges = w.ranges + 1; blanks = r.blanks; laid = r.laid; width = x; elided = Some el } ≡ line_told t none (edge_line k m t p width ellipsis way)
+    unfolding l
+    edge_told el x r el_is x_is r_is =
+        marked_told t none (edged way) _ (w.ranges + 1) r.blanks r.laid x el refl (omega (arith, ranges_is l w is, edge_long way l.ranges))
+        (ap (λ (y : VisualLine W). y.blanks) r_is ∙ blanks_is l w is) (ap (λ (y : VisualLine W). y.laid) r_is ∙ laid_is l w is)
+        (x_is ∙ ap (λ (y : W). k.sum_of m y ellipsis) (width_is l w is)) (el_is ∙ ap (λ (rs : List VlRange). elided_bytes t none (before_of way rs) (behind_of way rs)) laid_there)
+        ∙ ap (line_told t none) (sym line_is)
 
-      line_back : Line W
-      line_back = record { front = []; ellipsis = Some (level_between t.direction None (first_of l_back.ranges)); back = l_back.ranges; blanks = l_back.blanks; laid = l_back.laid; width = k.sum_of m l_back.width ellipsis }
-
-      line_back_is : start_line k m t p width ellipsis ≡ line_back
-      unfolding line_back l_back
-      line_back_is = cond-true l_back.flagged line_back (plain l_back) (flagged_is l_back w is true flagged)
-
-      start_told : record { ranges = w.ranges + 1; blanks = w.blanks; laid = w.laid; width = x; elided = Some el } ≡ line_told t none (start_line k m t p width ellipsis)
-      unfolding line_back l_back
-      start_told =
-          let f = front_is l_back.ranges before out w.ranges (ranges_is l_back w is) written in
-          marked_told t none line_back _ (w.ranges + 1) w.blanks w.laid x el refl (omega (arith, ranges_is l_back w is)) (blanks_is l_back w is) (laid_is l_back w is)
-          (x_is ∙ ap (λ (y : W). k.sum_of m y ellipsis) (width_is l_back w is)) (el_is ∙ ap (λ (rs : List VlRange). elided_bytes t none [] rs) f)
-          ∙ ap (line_told t none) (sym line_back_is)
-
-      start_written : (out' : List VlRange) → out' ≡ ellipsis_range level ∷ (take w.ranges out ++ drop (w.ranges + 1) out) → out' ≡ line_ranges (start_line k m t p width ellipsis) ++ drop (w.ranges + 1) before
-      unfolding line_back l_back
-      start_written out' o =
-          let z : w.ranges - 0 ≡ w.ranges = omega arith in
-          let f = front_is l_back.ranges before out w.ranges (ranges_is l_back w is) written in
-          let g : take w.ranges out ≡ l_back.ranges = ap (λ (i : ℕ). take i out) (sym z) ∙ f in
-          let r = rest_is l_back.ranges before out w.ranges (ranges_is l_back w is) written in
-          let e : level ≡ level_between t.direction None (first_of l_back.ranges) = level_is ∙ ap (λ (rs : List VlRange). level_between t.direction None (first_of rs)) f in
-          let s : out' ≡ ellipsis_range (level_between t.direction None (first_of l_back.ranges)) ∷ (l_back.ranges ++ drop (w.ranges + 1) before) = cc in
-          s ∙ ap (λ (y : Line W). line_ranges y ++ drop (w.ranges + 1) before) (sym line_back_is)
-
-      pub start_marked : (e : VlRange) → e ≡ ellipsis_range level → (out' : List VlRange) → out' ≡ e ∷ (take w.ranges out ++ drop (w.ranges + 1) out) → (record { ranges = w.ranges + 1; blanks = w.blanks; laid = w.laid; width = x; elided = Some el } ≡ line_told t none (start_line k m t p width ellipsis)) × (out' ≡ line_ranges (start_line k m t p width ellipsis) ++ drop (w.ranges + 1) before)
-      start_marked e e_is out' o = (start_told, start_written out' (o ∙ ap (λ (y : VlRange). y ∷ (take w.ranges out ++ drop (w.ranges + 1) out)) e_is))
+    pub edge_written : (out' : List VlRange) → out' ≡ (before_of way (take w.ranges out) ++ ellipsis_range (level_between t.direction (last_of (before_of way (take w.ranges out))) (first_of (behind_of way (take w.ranges out)))) ∷ behind_of way (take w.ranges out)) ++ drop (w.ranges + 1) out →
+        out' ≡ line_ranges (edge_line k m t p width ellipsis way) ++ drop (w.ranges + 1) before
+    unfolding l
+    edge_written out' o =
+        o
+        ∙ ap (λ (rs : List VlRange). (before_of way rs ++ ellipsis_range (level_between t.direction (last_of (before_of way rs)) (first_of (behind_of way rs))) ∷ behind_of way rs) ++ drop (w.ranges + 1) out) laid_there
+        ∙ ap (λ (rs : List VlRange). line_ranges (edged way) ++ rs) (rest_is l.ranges before out w.ranges (ranges_is l w is) written)
+        ∙ ap (λ (y : Line W). line_ranges y ++ drop (w.ranges + 1) before) (sym line_is)

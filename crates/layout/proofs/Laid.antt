@@ -1,6 +1,6 @@
 -- What a walk lays stays in the tables: its counts are small, and the last range of a forward walk ends at a position
 use Rattle.std.proofs.Common.{◌≡◌, ℕ, zero, suc, ◌+◌, ◌-◌, ◌*◌, ◌<◌, ◌≤◌, Bool, true, false, cond, eqb, ltb, leb, List, [], ◌∷◌, ◌++◌, length, Some, sym, refl, ap, ◌∙◌, subst, arith}
-use Rattle.std.proofs.lemmas.List.{reverse-append, length_push}
+use Rattle.std.proofs.lemmas.List.{length_push}
 use Rattle.std.proofs.lemmas.Bool.{cond_both, cond-true, and_from, le-leb, lt-ltb}
 use Rattle.std.proofs.lemmas.Bool.Decides.{nat_tests}
 use Rattle.measure.specs.declared.measure.Measure.{Ghosts}
@@ -13,7 +13,7 @@ use Rattle.paragraph.specs.declared.span.Span.{Span}
 use Rattle.walk.proofs.Aheads.{span_named, each_way, ahead_inside}
 use Rattle.walk.proofs.Fits.{cut_in, taken_in}
 use Rattle.walk.proofs.Orders.{next_in, later_in, inside_next, inside_later}
-use Rattle.walk.proofs.Tables.{span_ends}
+use Rattle.paragraph.proofs.Growth.{span_ends_within}
 use Rattle.walk.specs.Fit.{cut}
 use Rattle.walk.specs.Inside.{Inside}
 use Rattle.walk.specs.Parts.{words_in, low, part_size, row_of, forward, goes_up, next, later}
@@ -23,8 +23,9 @@ use Rattle.walk.specs.declared.line.LayoutDirection.{LayoutDirection}
 use Rattle.walk.specs.declared.line.LayoutDirection.TheVariants.{Forward}
 use Rattle.walk.specs.declared.line.Rule.{Rule}
 use Rattle.walk.specs.declared.line.VlRange.{VlRange}
-use Rattle.layout.specs.Ellipsis.{first_of, last_of}
+use Rattle.layout.specs.Ellipsis.{last_of}
 use Rattle.layout.specs.Lines.{ends_at}
+use Rattle.layout.proofs.Ends.{last_push}
 
 -- where a stretch ends for a walk up the table or down
 end_of : Bool → Stretch → Place
@@ -44,7 +45,7 @@ abbrev pub Ends : Text → List VlRange → Type 0
 Ends t rs = (r : VlRange) → last_of rs ≡ Some r → (exists t (ends_at t r.span r) ≡ true) × (length rs ≤ (ends_at t r.span r).span + 1)
 
 none_ends : (t : Text) → Ends t []
-none_ends t r e = let z : ◌≡◌ {A = ℕ} 0 1 = cc in absurd (omega arith)
+none_ends t r e = absurd cc
 
 kept_ends : (t : Text) (rs : List VlRange) (s : ℕ) (a : Stretch) → s < length t.spans → place_in t (span_at t s) (end_of (congruent t.direction (span_at t s).level) a) ≡ true → length rs ≤ s → Ends t rs → Ends t (kept rs (range_of t s a)) × (length (kept rs (range_of t s a)) ≤ s + 1)
 unfolding end_of
@@ -54,7 +55,7 @@ kept_ends t rs s a h there few ends =
     let place = cond (congruent t.direction (span_at t s).level) a.end a.start in
     let stands : exists t (record { span = s; place = place }) ≡ true = cond-true (ltb 0 n) _ _ (lt-ltb 0 n (omega arith)) ∙ and_from (ltb s n) (place_in t (span_at t s) place) (lt-ltb s n h) there in
     let long = length_push rs r in
-    let last : last_of (rs ++ r ∷ []) ≡ Some r = ap first_of (reverse-append rs (r ∷ [])) in
+    let last = last_push rs r in
     cond_both (same_place a.start a.end) rs (rs ++ r ∷ []) (λ (ys : List VlRange). Ends t ys × (length ys ≤ s + 1))
     (λ _. (ends, omega arith))
     (λ _. (
@@ -129,8 +130,8 @@ module _ {S W : Type 0} (k : Ghosts S W) (m : S) (t : Text) (p : Position) (rule
       unfolding Small
       part_small way l first count =
           let a = ahead_of t p s in
-          let n_small : words_in a ≤ 4096 = omega (arith, ahead_words, span_ends t sound s, sound.few_words) in
-          let both = in_span_small (span_at t s) a (goes_up t.direction (span_at t s) way) first count l.width (k.nil_of m) l.blanks l.laid a.start.word (words_in a) inside in
+          let n_small : words_in a ≤ 4096 = omega (arith, ahead_words, span_ends_within t sound s, sound.few_words) in
+          let both = in_span_small (span_at t s) a (goes_up t.direction (span_at t s) way) first count l.width k.NIL l.blanks l.laid a.start.word (words_in a) inside in
           (omega (arith, both.0), omega (arith, both.1))
 
       part_ends : (l : Lay W) (first count : ℕ) → place_in t (span_at t s) (end_of (congruent t.direction (span_at t s).level) (part_of k m t p rule Forward l s first count).stretch) ≡ true
@@ -139,7 +140,7 @@ module _ {S W : Type 0} (k : Ghosts S W) (m : S) (t : Text) (p : Position) (rule
           let c = congruent t.direction (span_at t s).level in
           let up = goes_up t.direction (span_at t s) Forward in
           let e : up ≡ c = up_is c in
-          let own = in_span_ends (span_at t s) a up first count l.width (k.nil_of m) l.blanks l.laid a.start.word (words_in a) inside ahead_words (subst (λ (b : Bool). place_in t (span_at t s) (end_of b a) ≡ true) (sym e) ahead_ends) in
+          let own = in_span_ends (span_at t s) a up first count l.width k.NIL l.blanks l.laid a.start.word (words_in a) inside ahead_words (subst (λ (b : Bool). place_in t (span_at t s) (end_of b a) ≡ true) (sym e) ahead_ends) in
           subst (λ (b : Bool). place_in t (span_at t s) (end_of b (part_of k m t p rule Forward l s first count).stretch) ≡ true) e own
 
     walks_small : (way : LayoutDirection) (l : Lay W) (at n : ℕ) → at + n ≤ length t.spans → ((walks k m t p rule way l at n).blanks ≤ l.blanks + 4096 * n) × ((walks k m t p rule way l at n).laid ≤ l.laid + 67108864 * n)

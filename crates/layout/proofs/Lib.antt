@@ -1,3 +1,4 @@
+pub mod Chains
 pub mod Ends
 pub mod Glyphs
 pub mod Lists

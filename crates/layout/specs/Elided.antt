@@ -24,6 +24,11 @@ largest_end gs = fold (λ n g. max n g.end) 0 gs
 abbrev pub smallest_start : List Glyph → ℕ
 smallest_start gs = fold (λ n g. min n g.start) 65535 gs
 
+-- what a row of glyphs answers, if it has any
+abbrev pub if_any : (List Glyph → ℕ) → List Glyph → Option ℕ
+if_any answer [] = None
+if_any answer (g ∷ gs) = Some (answer (g ∷ gs))
+
 -- a row of glyphs, or another where it is empty
 abbrev pub or_later : List Glyph → List Glyph → List Glyph
 or_later [] later = later

@@ -3,6 +3,8 @@ use Rattle.std.specs.Prelude.{ℕ, cond, List, [], ◌∷◌, reverse, Some, Non
 use Rattle.paragraph.specs.Reading.{edge}
 use Rattle.paragraph.specs.declared.direction.Direction.{Direction}
 use Rattle.paragraph.specs.declared.direction.Direction.TheVariants.{LeftToRight, RightToLeft}
+use Rattle.walk.specs.declared.line.LayoutDirection.{LayoutDirection}
+use Rattle.walk.specs.declared.line.LayoutDirection.TheVariants.{Forward, Backward}
 use Rattle.walk.specs.declared.line.VlRange.{VlRange}
 
 -- the ellipsis names no span and runs from (0, 0) to (1, 0)
@@ -28,3 +30,12 @@ level_between d None None = paragraph_level d
 level_between d (Some a) None = a.level
 level_between d None (Some b) = b.level
 level_between d (Some a) (Some b) = cond (a.level == b.level) a.level (paragraph_level d)
+
+-- The ellipsis stands where a walk ended: all that it laid stands before the ellipsis if it went forward, and behind it if it went back
+abbrev pub before_of : LayoutDirection → List VlRange → List VlRange
+before_of Forward rs = rs
+before_of Backward rs = []
+
+abbrev pub behind_of : LayoutDirection → List VlRange → List VlRange
+behind_of Forward rs = []
+behind_of Backward rs = rs

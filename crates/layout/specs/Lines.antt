@@ -10,6 +10,7 @@ use Rattle.measure.specs.declared.measure.Measure.{Ghosts}
 use Rattle.paragraph.specs.Text.{Text, span_at, congruent}
 use Rattle.paragraph.specs.declared.place.Position.{Position}
 use Rattle.walk.specs.Walk.{Lay, lay}
+use Rattle.walk.specs.declared.line.LayoutDirection.{LayoutDirection}
 use Rattle.walk.specs.declared.line.LayoutDirection.TheVariants.{Forward, Backward}
 use Rattle.walk.specs.declared.line.Rule.TheVariants.{Never, Closing}
 use Rattle.walk.specs.declared.line.VlRange.{VlRange}
@@ -62,13 +63,18 @@ module _ {S W : Type 0} (k : Ghosts S W) (m : S) (t : Text) (p : Position) where
         (record { front = []; ellipsis = Some (level_between t.direction None (first_of l.ranges)); back = l.ranges; blanks = l.blanks; laid = l.laid; width = k.sum_of m l.width ellipsis })
         (plain l)
 
+    -- the one with the ellipsis where the walk ended
+    abbrev pub edge_line : LayoutDirection → Line W
+    edge_line Forward = end_line
+    edge_line Backward = start_line
+
     -- Middle's two halves around the ellipsis. The second walk goes back to where the first one's last range ends, on what the first and the
     -- ellipsis leave of the width. Where the first walk has no range the ellipsis stands alone
     abbrev pub halves : Lay W → Option VlRange → Line W
     halves first None =
         record { front = []; ellipsis = Some (paragraph_level t.direction); back = []; blanks = 0; laid = 0; width = ellipsis }
     halves first (Some r) =
-        let second = lay k m t (ends_at t r.span r) (Closing (k.difference_of m (k.difference_of m width first.width) ellipsis) (k.nil_of m)) Backward in
+        let second = lay k m t (ends_at t r.span r) (Closing (k.difference_of m (k.difference_of m width first.width) ellipsis) k.NIL) Backward in
         record {
           front = first.ranges;
           ellipsis = Some (level_between t.direction (Some r) (first_of second.ranges));
@@ -83,7 +89,7 @@ module _ {S W : Type 0} (k : Ghosts S W) (m : S) (t : Text) (p : Position) where
     abbrev pub middle_line : Line W
     middle_line =
         let trial = lay k m t p (Closing width ellipsis) Forward in
-        let first = lay k m t p (Closing (k.half_of m width) (k.nil_of m)) Forward in
+        let first = lay k m t p (Closing (k.half_of m width) k.NIL) Forward in
         cond (not trial.flagged && not (k.over_of m trial.width width)) (plain trial)
         (cond first.flagged (halves first (last_of first.ranges)) (plain first))
 

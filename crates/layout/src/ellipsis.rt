@@ -1,5 +1,5 @@
 // The range of the ellipsis, and its level.
-ghost use Rattle.layout.specs.Ellipsis.{ellipsis_range, first_of, last_of, level_between, paragraph_level};
+ghost use Rattle.layout.specs.Ellipsis.{ellipsis_range, level_between, paragraph_level};
 ghost use Rattle.std.specs.Prelude.{◌≡◌};
 
 use paragraph::direction::Direction;
@@ -12,8 +12,8 @@ pub fn ellipsis_range(level: u8) -> VlRange
 {
     VlRange {
         span: None,
-        start: Place { word: 0, glyph: 0 },
-        end: Place { word: 1, glyph: 0 },
+        start: Place::edge(0),
+        end: Place::edge(1),
         level,
     }
 }
@@ -22,10 +22,7 @@ pub fn ellipsis_range(level: u8) -> VlRange
 pub fn paragraph_level(direction: Direction) -> u8
     ensures { result ≡ paragraph_level direction }
 {
-    match direction {
-        Direction::LeftToRight => 0,
-        Direction::RightToLeft => 1,
-    }
+    direction as u8
 }
 
 /// The level of an ellipsis between two ranges: the one that both share, the only one's, or else the paragraph's.
@@ -41,27 +38,5 @@ pub fn ellipsis_level_between(
         (Some(a), None) => a.level,
         (None, Some(b)) => b.level,
         _ => paragraph_level(direction),
-    }
-}
-
-/// The first of some ranges.
-pub fn first_range(ranges: &[VlRange]) -> Option<VlRange>
-    ensures { result ≡ first_of ranges.now }
-{
-    if ranges.is_empty() {
-        None
-    } else {
-        Some(ranges[0])
-    }
-}
-
-/// The last of some ranges.
-pub fn last_range(ranges: &[VlRange]) -> Option<VlRange>
-    ensures { result ≡ last_of ranges.now }
-{
-    if ranges.is_empty() {
-        None
-    } else {
-        Some(ranges[ranges.len() - 1])
     }
 }

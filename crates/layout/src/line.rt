@@ -1,6 +1,9 @@
 // What a closing line is asked for and what it tells.
+ghost use Rattle.std.specs.Prelude.{◌≡◌, None};
 
-/// Where the ellipsis of a line that does not fit stands.
+use walk::line::Walked;
+
+/// Where the ellipsis of a line that does not fit stands: the Rust's own four modes, so `None` is one of them.
 #[derive(Clone, Copy)]
 pub enum Ellipsize {
     /// Nowhere: nothing overflows.
@@ -25,4 +28,19 @@ pub struct VisualLine<W> {
     pub laid: usize,
     pub width: W,
     pub elided: Option<ElidedBytes>,
+}
+
+/// A walk as a line without the ellipsis.
+impl<W> From<Walked<W>> for VisualLine<W> {
+    ghost from_gives = { λ walked line. line ≡ record { ranges = walked.ranges; blanks = walked.blanks; laid = walked.laid; width = walked.width; elided = None } };
+
+    fn from(walked: Walked<W>) -> VisualLine<W> {
+        VisualLine {
+            ranges: walked.ranges,
+            blanks: walked.blanks,
+            laid: walked.laid,
+            width: walked.width,
+            elided: None,
+        }
+    }
 }

@@ -1,6 +1,7 @@
 -- Where a forward walk ends: behind its last range stands just what it leaves
 use Rattle.std.proofs.Common.{◌≡◌, ℕ, zero, suc, ◌+◌, ◌-◌, ◌<◌, ◌≤◌, Bool, true, false, cond, not, eqb, ltb, List, [], ◌∷◌, ◌++◌, length, Some, sym, refl, ap, ◌∙◌, subst, ap₂, append_assoc, arith}
-use Rattle.layout.specs.Ellipsis.{first_of, last_of}
+use Rattle.layout.proofs.Ends.{last_push}
+use Rattle.layout.specs.Ellipsis.{last_of}
 use Rattle.layout_laws.specs.Laws.{Ended, Ends}
 use Rattle.measure.specs.declared.measure.Measure.{Ghosts}
 use Rattle.paragraph.specs.Reading.{ahead, ahead_from, between, boundary, edge, exists, held, whole}
@@ -9,7 +10,6 @@ use Rattle.paragraph.specs.declared.place.Place.{Place}
 use Rattle.paragraph.specs.declared.place.Position.{Position}
 use Rattle.paragraph.specs.declared.place.Stretch.{Stretch}
 use Rattle.paragraph.specs.declared.span.Span.{Span}
-use Rattle.std.proofs.lemmas.List.{reverse-append}
 use Rattle.std.proofs.lemmas.Bool.{and_from, cond_both, cond-false, cond-true, eq-eqb, lt-ltb, ne_eqb}
 use Rattle.walk.specs.Walk.{Lay, Part, kept, lay, nothing, part_of, range_of, same_place, walks, with_part}
 use Rattle.walk.specs.Widths.{ahead_of}
@@ -31,9 +31,6 @@ later_alike t p q s (suc n) h i =
   where
     all_of : (o : Position) → o.span < s → ahead_of t o s ≡ whole (span_at t s)
     all_of o l = cond-false (eqb s o.span) _ (whole (span_at t s)) (ne_eqb s o.span (λ e. omega arith))
-
-last_push : (rs : List VlRange) (r : VlRange) → last_of (rs ++ r ∷ []) ≡ Some r
-last_push rs r = ap first_of (reverse-append rs (r ∷ []))
 
 -- between equal boundaries nothing stands
 held_same : (t : Text) (sp : Span) (a : Stretch) → boundary t sp a.start ≡ boundary t sp a.end → held t sp a ≡ []
@@ -148,4 +145,4 @@ module _ {S W : Type 0} (k : Ghosts S W) (m : S) (t : Text) (p : Position) (rule
   pub walk_ends : (rest : List ℕ) × Ends t p (lay k m t p rule Forward).ranges rest
   walk_ends =
       walks_end (nothing k m t p rule) p.span (length t.spans - p.span) (omega arith) (omega (arith, (existing t p here).span_most))
-      (record { parted = refl; last_ends = λ r i. let z : ◌≡◌ {A = ℕ} 0 1 = cc in absurd (omega arith) })
+      (record { parted = refl; last_ends = λ r i. absurd cc })

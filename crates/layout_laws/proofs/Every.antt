@@ -1,6 +1,5 @@
 -- The laws of all lines on a measure
-use Rattle.std.proofs.Common.{◌≡◌, ℕ, ◌+◌, ◌^◌, ◌<◌, true, [], ◌++◌, Some, None, sym, refl, ap, ◌∙◌, subst, true≢false, append-nil, arith}
-use mathlib.Core.Bool.{false≢true}
+use Rattle.std.proofs.Common.{◌≡◌, ℕ, ◌+◌, ◌^◌, ◌<◌, true, [], ◌++◌, Some, None, sym, refl, ap, ◌∙◌, subst, append-nil, arith}
 use Rattle.glyph.specs.declared.glyph.Glyph.{Glyph}
 use Rattle.layout.specs.declared.line.Ellipsize.TheVariants as mode
 use Rattle.layout_laws.proofs.Endings.{walk_ends}
@@ -34,11 +33,11 @@ module _ {S W : Type 0} (k : Ghosts S W) (m : S) where
   pub every_whole_line : EveryWholeLine k m
   every_whole_line t p mode.None width ellipsis e = refl
   every_whole_line t p mode.Start None ellipsis e = refl
-  every_whole_line t p mode.Start (Some width) ellipsis e = absurd (true≢false e)
+  every_whole_line t p mode.Start (Some width) ellipsis e = absurd cc
   every_whole_line t p mode.Middle None ellipsis e = refl
-  every_whole_line t p mode.Middle (Some width) ellipsis e = absurd (true≢false e)
+  every_whole_line t p mode.Middle (Some width) ellipsis e = absurd cc
   every_whole_line t p mode.End None ellipsis e = refl
-  every_whole_line t p mode.End (Some width) ellipsis e = absurd (true≢false e)
+  every_whole_line t p mode.End (Some width) ellipsis e = absurd cc
 
   pub every_taken_line : EveryTakenLine k m
   every_taken_line t p width sound here =
@@ -62,7 +61,7 @@ module _ {S W : Type 0} (k : Ghosts S W) (m : S) where
     room t p ellipsis sound here small = omega (arith, ahead_small k m number glyph from exact t sound p here)
 
     pub every_fitting_line : EveryFittingLine k m number glyph
-    every_fitting_line t p mode.None width ellipsis sound here small e = absurd (false≢true e)
+    every_fitting_line t p mode.None width ellipsis sound here small e = absurd cc
     every_fitting_line t p mode.Start width ellipsis sound here small e = start_fits k m number glyph from exact t sound p here ellipsis (room t p ellipsis sound here small) width
     every_fitting_line t p mode.Middle width ellipsis sound here small e = middle_fits k m number glyph from exact t sound p here ellipsis (room t p ellipsis sound here small) width
     every_fitting_line t p mode.End width ellipsis sound here small e = end_fits k m number glyph from exact t sound p here ellipsis (room t p ellipsis sound here small) width

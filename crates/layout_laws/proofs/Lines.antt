@@ -1,6 +1,6 @@
 -- What a closing line means, on any measure
 use Rattle.std.proofs.Common.{◌≡◌, ℕ, ◌+◌, ◌≤◌, min, max, true, false, cond, not, ◌&&◌, List, [], ◌++◌, length, Some, None, Option, sym, refl, ap, ◌∙◌, subst, append-nil, arith, length-append}
-use Rattle.layout.specs.Ellipsis.{first_of, last_of, level_between, paragraph_level}
+use Rattle.layout.specs.Ellipsis.{first_of, last_of, level_between}
 use Rattle.layout.specs.Lines.{Line, end_line, ends_at, halves, middle_line, plain, start_line, whole_line}
 use Rattle.layout_laws.proofs.Endings.{walk_ends}
 use Rattle.layout_laws.proofs.Once.{shown_once}
@@ -22,9 +22,6 @@ use Rattle.walk_laws.proofs.Places.{existing}
 use Rattle.walk_laws.proofs.Walks.{walk_law}
 use Rattle.walk_laws.specs.Laws.{SpanBySpan, WalkLaw}
 use Rattle.walk_laws.specs.Shown.{shown}
-
-some_none : {A : Type 0} (x : A) → Some x ≡ None → ⊥
-some_none x e = let z : ◌≡◌ {A = ℕ} 0 1 = cc in omega arith
 
 module _ {W : Type 0} (t : Text) (p : Position) (sound : Sound t) (here : exists t p ≡ true) where
   -- a line of two parts around what is hidden, which meet in a span
@@ -73,7 +70,7 @@ module _ {W : Type 0} (t : Text) (p : Position) (sound : Sound t) (here : exists
       line_law (record { front = []; ellipsis = Some level; back = l.ranges; blanks = l.blanks; laid = l.laid; width = width }) law.leaves p.span
       law.parted
       (omega (arith, law.counted))
-      (λ e. absurd (some_none level e))
+      (λ e. absurd cc)
       (omega arith)
       (existing t p here).span_most
       tt
@@ -107,7 +104,7 @@ module _ {S W : Type 0} (k : Ghosts S W) (m : S) (t : Text) (p : Position) (soun
         line_law t p sound here (halves k m t p width ellipsis first None) (ahead t p) p.span
         (sym (append-nil (ahead t p)))
         refl
-        (λ e. absurd (some_none (paragraph_level t.direction) e))
+        (λ e. absurd cc)
         (omega arith)
         (existing t p here).span_most
         tt
@@ -115,13 +112,13 @@ module _ {S W : Type 0} (k : Ghosts S W) (m : S) (t : Text) (p : Position) (soun
     halves_law first rest ends law (Some r) e =
         let (s, span_is, there, is-rest) = ends.last_ends r e in
         let q = ends_at t r.span r in
-        let rule = Closing (k.difference_of m (k.difference_of m width first.width) ellipsis) (k.nil_of m) in
+        let rule = Closing (k.difference_of m (k.difference_of m width first.width) ellipsis) k.NIL in
         let second = laws rule Backward q there in
         let (from, below, reached) = last_reaches t p.span (length t.spans) s first.ranges r e span_is law.ranges_in in
         line_law t p sound here (halves k m t p width ellipsis first (Some r)) second.leaves s
         (ends.parted ∙ ap (λ (is : List ℕ). shown t first.ranges ++ is) (sym is-rest ∙ second.parted))
         (omega (arith, law.counted, second.counted))
-        (λ e. absurd (some_none _ e))
+        (λ e. absurd cc)
         from
         (omega arith)
         (ranges_in t p.span (s + 1) p.span (min (s + 1) (length t.spans)) first.ranges (omega arith) (omega arith) reached)
@@ -132,7 +129,7 @@ module _ {S W : Type 0} (k : Ghosts S W) (m : S) (t : Text) (p : Position) (soun
     trial = lay k m t p (Closing width ellipsis) Forward
 
     abbrev half_rule : Rule W
-    half_rule = Closing (k.half_of m width) (k.nil_of m)
+    half_rule = Closing (k.half_of m width) k.NIL
 
     abbrev first_half : Lay W
     first_half = lay k m t p half_rule Forward
@@ -153,7 +150,7 @@ module _ {S W : Type 0} (k : Ghosts S W) (m : S) (t : Text) (p : Position) (soun
     end_law =
         let law = laws (Closing width ellipsis) Forward p here in
         cond_both trial.flagged _ (plain trial) (LineLaw t p)
-        (λ _. front_law t p sound here trial (Some (level_between t.direction (last_of trial.ranges) None)) (k.sum_of m trial.width ellipsis) law (λ e. absurd (some_none _ e)))
+        (λ _. front_law t p sound here trial (Some (level_between t.direction (last_of trial.ranges) None)) (k.sum_of m trial.width ellipsis) law (λ e. absurd cc))
         (λ f. plain_law t p sound here Forward trial law f)
 
     pub start_law : LineLaw t p (start_line k m t p width ellipsis)

@@ -16,10 +16,10 @@ module _ {S W : Type 0} (k : Ghosts S W) (m : S) (t : Text) (p : Position) (way 
   never_part l s first count =
       in_span_by k m t p Never (span_at t s) (ahead_of t p s) (goes_up t.direction (span_at t s) way) first count l.width
       (λ R laid at n. Unit {0}) (λ q. q.flagged ≡ false)
-      (λ R blanks laid at n so e. absurd (false≢true e))
+      (λ R blanks laid at n so e. absurd cc)
       (λ R laid at n so e. tt)
       (λ R blanks laid at so. refl)
-      (k.nil_of m) l.blanks l.laid (ahead_of t p s).start.word (words_in (ahead_of t p s)) tt
+      k.NIL l.blanks l.laid (ahead_of t p s).start.word (words_in (ahead_of t p s)) tt
 
   pub never_flagged : (lay k m t p Never way).flagged ≡ false
   never_flagged =

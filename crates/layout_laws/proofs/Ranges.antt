@@ -1,7 +1,7 @@
 -- Lists of ranges: what they show, how many they are, which spans they are of
-use Rattle.std.proofs.Common.{◌≡◌, ℕ, ◌+◌, ◌<◌, ◌≤◌, List, [], ◌∷◌, ◌++◌, reverse, length, Some, None, Option, sym, refl, ap, ◌∙◌, append_assoc, arith, length-append}
-use mathlib.Core.List.{reverse-cons}
-use Rattle.layout.specs.Ellipsis.{first_of, last_of}
+use Rattle.std.proofs.Common.{◌≡◌, ℕ, suc, ◌+◌, ◌-◌, ◌<◌, ◌≤◌, List, [], ◌∷◌, ◌++◌, length, get_or, Some, None, Option, sym, refl, ap, ◌∙◌, append_assoc, arith, length-append}
+use Rattle.layout.proofs.Ends.{last_is}
+use Rattle.layout.specs.Ellipsis.{last_of}
 use Rattle.layout.specs.Lines.{Line, ellipsis_ranges, line_ranges}
 use Rattle.paragraph.specs.Text.{Text}
 use Rattle.walk.specs.declared.line.VlRange.{VlRange}
@@ -31,15 +31,10 @@ line_most l =
     omega (arith, length-append l.front (ellipsis_ranges l.ellipsis ++ l.back), length-append (ellipsis_ranges l.ellipsis) l.back, ellipsis_most l.ellipsis)
 
 -- the last of two or more
-first_alike : (xs bs cs : List VlRange) (r : VlRange) → first_of (xs ++ r ∷ bs) ≡ first_of (xs ++ r ∷ cs)
-first_alike [] bs cs r = refl
-first_alike (a ∷ xs) bs cs r = refl
-
 last_cons : (a b : VlRange) (rs : List VlRange) → last_of (a ∷ b ∷ rs) ≡ last_of (b ∷ rs)
 last_cons a b rs =
-    ap first_of (reverse-cons a (b ∷ rs) ∙ ap (λ (l : List VlRange). l ++ a ∷ []) (reverse-cons b rs) ∙ append_assoc (reverse rs) (b ∷ []) (a ∷ []))
-    ∙ first_alike (reverse rs) (a ∷ []) [] b
-    ∙ sym (ap first_of (reverse-cons b rs))
+    let e : length (a ∷ b ∷ rs) - 1 ≡ suc (length (b ∷ rs) - 1) = omega arith in
+    last_is (a ∷ b ∷ rs) a (omega arith) ∙ ap (λ (i : ℕ). Some (get_or (a ∷ b ∷ rs) i a)) e ∙ sym (last_is (b ∷ rs) a (omega arith))
 
 module _ (t : Text) where
   pub ranges_most : (low high : ℕ) (rs : List VlRange) → low ≤ high → SpanBySpan t low high rs → length rs + low ≤ high
@@ -52,7 +47,7 @@ module _ (t : Text) where
 
   -- the last range's span is the last of all
   pub last_reaches : (low high s : ℕ) (rs : List VlRange) (r : VlRange) → last_of rs ≡ Some r → r.span ≡ Some s → SpanBySpan t low high rs → (low ≤ s) × (s < high) × SpanBySpan t low (s + 1) rs
-  last_reaches low high s [] r e f h = let z : ◌≡◌ {A = ℕ} 0 1 = cc in absurd (omega arith)
+  last_reaches low high s [] r e f h = absurd cc
   last_reaches low high s (a ∷ []) r e f (v, l, k, own, rest) =
       let same : v ≡ s = one in
       (omega arith, omega arith, (v, l, omega arith, own, tt))

@@ -4,6 +4,7 @@
 ghost use Rattle.layout_laws.specs.Laws.{EveryEnding, EveryFittingLine, EveryLine, EveryLineWidth, EveryTakenLine, EveryWholeLine};
 ghost use Rattle.layout_laws.specs.Worked.{Worked};
 
+use measure::cells::Cells;
 use measure::exact::ExactMeasure;
 use measure::measure::Measure;
 
@@ -26,5 +27,5 @@ pub fn lines_are_exact<M: ExactMeasure>(m: &M)
 
 /// The lines of small paragraphs whose glyphs are one cell wide, worked out.
 pub fn worked_lines()
-    ensures { Worked }
+    ensures { Worked ⟦<Cells as Measure>⟧ }
 {}

@@ -1,29 +1,23 @@
 -- The scan of a line: what the levels come to from any place of it on.
-use Rattle.std.proofs.Common.{◌≡◌, ℕ, ◌+◌, ◌-◌, ◌<◌, ◌≤◌, Bool, true, false, cond, ◌&&◌, List, [], ◌∷◌, ◌++◌, length, get_or, take, drop, set, replicate, sum, sym, ap, ◌∙◌, append_assoc, append-nil, arith, length-append, take-add}
+use Rattle.std.proofs.Common.{is_some, ◌≡◌, ℕ, Option, Some, None, ◌+◌, ◌-◌, ◌<◌, ◌≤◌, Bool, true, false, cond, ◌&&◌, List, ◌∷◌, ◌++◌, length, get_or, take, drop, replicate, sum, sym, ap, ap₂, ◌∙◌, append_assoc, append-nil, arith, length-append, take-add}
 use lib.ListN.{length-replicate}
-use Rattle.std.proofs.lemmas.List.{drop_more, drop_all, take_at, drop_at, drop-drop, take-append-drop, length-take-le, replicate-append-replicate, set_at}
+use Rattle.std.proofs.lemmas.List.{drop_more, take_at, drop_at, drop-drop, length-take-le, replicate-append-replicate}
 use Rattle.std.proofs.lemmas.List.Sums.{sum_by_more, sum_by-take-le}
-use Rattle.levels.specs.declared.scan.Run.{Run}
-use Rattle.levels.specs.declared.scan.Run.TheVariants.{Open, Shut}
 use Rattle.levels.specs.Classes.{Role, separator, space, removed, other, role_of, class_of}
 use Rattle.levels.specs.Runs.{painted, run_after, start_of, levels_after}
 use Rattle.levels.specs.RuleL1.{roles_of, runs_out, resets, releveled}
-
-abbrev pub is_open : Run → Bool
-is_open (Open from) = true
-is_open Shut = false
 
 -- the first bytes with the paragraph's level from the start of a run on
 abbrev pub front : ℕ → ℕ → ℕ → List ℕ → List ℕ
 front level from to xs = take from xs ++ replicate (to - from) level
 
 -- what the bytes passed so far come to: an open run is reset where it comes to a separator or the end
-abbrev pub passed : ℕ → Run → ℕ → List Role → List ℕ → List ℕ
-passed level run at line xs = cond (is_open run && runs_out line) (front level (start_of run at) at xs) (take at xs)
+abbrev pub passed : ℕ → Option ℕ → ℕ → List Role → List ℕ → List ℕ
+passed level run at line xs = cond (is_some run && runs_out line) (front level (start_of run at) at xs) (take at xs)
 
 -- what all bytes come to
-abbrev pub pending : ℕ → Run → ℕ → List Role → List ℕ → List ℕ → List ℕ
-pending level run at line lengths xs = passed level run at line xs ++ releveled level (resets (is_open run) line) lengths (drop at xs)
+abbrev pub pending : ℕ → Option ℕ → ℕ → List Role → List ℕ → List ℕ → List ℕ
+pending level run at line lengths xs = passed level run at line xs ++ releveled level (resets (is_some run) line) lengths (drop at xs)
 
 -- A RUN OF PAINTED BYTES
 
@@ -43,17 +37,6 @@ front_none : (level from : ℕ) (xs : List ℕ) → front level from from xs ≡
 front_none level from xs =
     let e : from - from ≡ 0 = omega arith in
     ap (λ m. take from xs ++ replicate m level) e ∙ append-nil (take from xs)
-
--- nothing painted yet, and one more byte
-pub paint_none : (level from : ℕ) (xs : List ℕ) → xs ≡ painted level from from xs
-paint_none level from xs = sym (ap (λ t. t ++ drop from xs) (front_none level from xs) ∙ take-append-drop from xs)
-
-pub paint_more : (level from i : ℕ) (xs : List ℕ) → from ≤ i → i < length xs → set (painted level from i xs) i level ≡ painted level from (i + 1) xs
-paint_more level from i xs h l =
-    ap (λ t. set (front level from i xs ++ t) i level) (drop_more xs i 0 l)
-    ∙ set_at (front level from i xs) (get_or xs i 0) (drop (i + 1) xs) level i (front_length level from i xs h (omega arith))
-    ∙ sym (append_assoc (front level from i xs) (level ∷ []) (drop (i + 1) xs))
-    ∙ ap (λ t. t ++ drop (i + 1) xs) (front_grows level from i xs h 1)
 
 -- ONE CHARACTER of n bytes; rest is what becomes of the bytes after it
 
@@ -81,53 +64,39 @@ module _ (level at n : ℕ) (xs : List ℕ) (rest : List ℕ → List ℕ) where
       reset from h
       ∙ rw (take_at (front level from (at + n) xs) (drop (at + n) xs) (at + n) l, drop_at (front level from (at + n) xs) (drop (at + n) xs) (at + n) l)
 
-stepped : (level : ℕ) (run : Run) (role : Role) (at n : ℕ) (line : List Role) (lengths xs : List ℕ) → start_of run at ≤ at → at + n ≤ length xs → pending level run at (role ∷ line) (n ∷ lengths) xs ≡ pending level (run_after run role at) (at + n) line lengths (levels_after level run role at (at + n) xs)
-stepped level (Open from) separator at n line lengths xs h w = ends level at n xs (releveled level (resets false line) lengths) from h w
-stepped level (Open from) space at n line lengths xs h w = goes_on level at n xs (releveled level (resets true line) lengths) from (runs_out line) h
-stepped level (Open from) removed at n line lengths xs h w = goes_on level at n xs (releveled level (resets true line) lengths) from (runs_out line) h
-stepped level (Open from) other at n line lengths xs h w = as_before level at n xs (releveled level (resets false line) lengths)
-stepped level Shut separator at n line lengths xs h w =
+stepped : (level : ℕ) (run : Option ℕ) (role : Role) (at n : ℕ) (line : List Role) (lengths xs : List ℕ) → start_of run at ≤ at → at + n ≤ length xs → pending level run at (role ∷ line) (n ∷ lengths) xs ≡ pending level (run_after run role at) (at + n) line lengths (levels_after level run role at (at + n) xs)
+stepped level (Some from) separator at n line lengths xs h w = ends level at n xs (releveled level (resets false line) lengths) from h w
+stepped level (Some from) space at n line lengths xs h w = goes_on level at n xs (releveled level (resets true line) lengths) from (runs_out line) h
+stepped level (Some from) removed at n line lengths xs h w = goes_on level at n xs (releveled level (resets true line) lengths) from (runs_out line) h
+stepped level (Some from) other at n line lengths xs h w = as_before level at n xs (releveled level (resets false line) lengths)
+stepped level None separator at n line lengths xs h w =
     ap (λ t. t ++ (replicate n level ++ releveled level (resets false line) lengths (drop n (drop at xs)))) (sym (front_none level at xs))
     ∙ ends level at n xs (releveled level (resets false line) lengths) at h w
-stepped level Shut space at n line lengths xs h w = opens level at n xs (releveled level (resets true line) lengths) (runs_out line)
-stepped level Shut removed at n line lengths xs h w = as_before level at n xs (releveled level (resets false line) lengths)
-stepped level Shut other at n line lengths xs h w = as_before level at n xs (releveled level (resets false line) lengths)
+stepped level None space at n line lengths xs h w = opens level at n xs (releveled level (resets true line) lengths) (runs_out line)
+stepped level None removed at n line lengths xs h w = as_before level at n xs (releveled level (resets false line) lengths)
+stepped level None other at n line lengths xs h w = as_before level at n xs (releveled level (resets false line) lengths)
 
--- a turn of the scan
-module _ (level i at : ℕ) (run : Run) (codes lengths xs : List ℕ) where
-  pub turned : (role : Role) (run' : Run) (xs' : List ℕ) → i < length codes → i < length lengths → start_of run at ≤ at → at + get_or lengths i 0 ≤ length xs → role_of (class_of (get_or codes i 0)) ≡ role → run' ≡ run_after run role at → xs' ≡ levels_after level run role at (at + get_or lengths i 0) xs → pending level run at (roles_of (drop i codes)) (drop i lengths) xs ≡ pending level run' (at + get_or lengths i 0) (roles_of (drop (i + 1) codes)) (drop (i + 1) lengths) xs'
-  turned role run' xs' hc hl h w er eu ex =
-      ap (λ line. pending level run at (roles_of line) (drop i lengths) xs) (drop_more codes i 0 hc)
+-- a turn of the scan, at a character of n bytes
+module _ (level i at n : ℕ) (run : Option ℕ) (codes lengths xs : List ℕ) where
+  pub turned : (j : ℕ) (role : Role) (run' : Option ℕ) (xs' : List ℕ) → j ≡ i + 1 → i < length codes → i < length lengths → n ≡ get_or lengths i 0 → start_of run at ≤ at → at + n ≤ length xs → role_of (class_of (get_or codes i 0)) ≡ role → run' ≡ run_after run role at → xs' ≡ levels_after level run role at (at + n) xs → pending level run at (roles_of (drop i codes)) (drop i lengths) xs ≡ pending level run' (at + n) (roles_of (drop j codes)) (drop j lengths) xs'
+  turned j role run' xs' ej hc hl en h w er eu ex =
+      rw (ej, eu, ex)
+      (ap (λ line. pending level run at (roles_of line) (drop i lengths) xs) (drop_more codes i 0 hc)
       ∙ ap (λ ns. pending level run at (roles_of (get_or codes i 0 ∷ drop (i + 1) codes)) ns xs) (drop_more lengths i 0 hl)
-      ∙ ap (λ r. pending level run at (r ∷ roles_of (drop (i + 1) codes)) (get_or lengths i 0 ∷ drop (i + 1) lengths) xs) er
-      ∙ stepped level run role at (get_or lengths i 0) (roles_of (drop (i + 1) codes)) (drop (i + 1) lengths) xs h w
-      ∙ ap (λ u. pending level u (at + get_or lengths i 0) (roles_of (drop (i + 1) codes)) (drop (i + 1) lengths) (levels_after level run role at (at + get_or lengths i 0) xs)) (sym eu)
-      ∙ ap (λ ys. pending level run' (at + get_or lengths i 0) (roles_of (drop (i + 1) codes)) (drop (i + 1) lengths) ys) (sym ex)
-
-  -- the end of the line: the run that stands open is reset
-  at_end : length codes ≤ i → pending level run at (roles_of (drop i codes)) (drop i lengths) xs ≡ passed level run at [] xs ++ drop at xs
-  at_end h = ap (λ line. pending level run at (roles_of line) (drop i lengths) xs) (drop_all i codes h)
-
-  pub ended_open : (from : ℕ) → run ≡ Open from → length codes ≤ i → painted level from at xs ≡ pending level run at (roles_of (drop i codes)) (drop i lengths) xs
-  ended_open from e h = ap (λ u. passed level u at [] xs ++ drop at xs) (sym e) ∙ sym (at_end h)
-
-  pub ended_shut : run ≡ Shut → length codes ≤ i → xs ≡ pending level run at (roles_of (drop i codes)) (drop i lengths) xs
-  ended_shut e h = sym (take-append-drop at xs) ∙ ap (λ u. passed level u at [] xs ++ drop at xs) (sym e) ∙ sym (at_end h)
+      ∙ ap₂ (λ r m. pending level run at (r ∷ roles_of (drop (i + 1) codes)) (m ∷ drop (i + 1) lengths) xs) er (sym en)
+      ∙ stepped level run role at n (roles_of (drop (i + 1) codes)) (drop (i + 1) lengths) xs h w)
 
 -- a character lies within the bytes of the line
 pub within : (lengths : List ℕ) (i at total : ℕ) → i < length lengths → at ≡ sum (take i lengths) → sum lengths ≡ total → at + get_or lengths i 0 ≤ total
 within lengths i at total h a t = omega (arith, sum_by_more (λ x. x) lengths i 0 h, sum_by-take-le (λ x. x) lengths (i + 1))
 
-pub open_start : (run : Run) (from at : ℕ) → run ≡ Open from → start_of run at ≤ at → from ≤ at
-open_start run from at e h = rw e at h
-
 -- a run starts before the place that the scan has come to
-pub started : (run : Run) (role : Role) (at n : ℕ) → start_of run at ≤ at → start_of (run_after run role at) (at + n) ≤ at + n
-started (Open from) separator at n h = omega arith
-started (Open from) space at n h = omega arith
-started (Open from) removed at n h = omega arith
-started (Open from) other at n h = omega arith
-started Shut separator at n h = omega arith
-started Shut space at n h = omega arith
-started Shut removed at n h = omega arith
-started Shut other at n h = omega arith
+pub started : (run : Option ℕ) (role : Role) (at n : ℕ) → start_of run at ≤ at → start_of (run_after run role at) (at + n) ≤ at + n
+started (Some from) separator at n h = omega arith
+started (Some from) space at n h = omega arith
+started (Some from) removed at n h = omega arith
+started (Some from) other at n h = omega arith
+started None separator at n h = omega arith
+started None space at n h = omega arith
+started None removed at n h = omega arith
+started None other at n h = omega arith

@@ -1,11 +1,13 @@
 -- What the verdict on the tables of a line means.
-use Rattle.std.proofs.Common.{◌≡◌, ℕ, zero, suc, ◌<◌, ◌≤◌, Bool, true, false, cond, ◌&&◌, eqb, ltb, leb, List, [], ◌∷◌, length, get_or, Some, None, Ok, Err, sum, Result, sym, refl, subst, inl, inr, arith}
-use Rattle.std.proofs.lemmas.Bool.{true≢false, and_cases, eqb-true, eqb-false, leb-true, leb-false, ltb-true, ltb-false}
+use Rattle.std.proofs.Common.{◌≡◌, ℕ, zero, suc, ◌<◌, ◌≤◌, Bool, true, false, cond, not, ◌&&◌, eqb, leb, List, [], ◌∷◌, length, get_or, Some, None, Ok, Err, sum, Option, Result, sym, refl, subst, inl, inr, arith}
+use Rattle.std.proofs.lemmas.Bool.{true≢false, and_cases, eqb-true, eqb-false, leb-true, leb-false}
 use Rattle.std.proofs.lemmas.Bool.Decides.{nat_tests}
-use Rattle.std.specs.List.{prefix_len}
-use Rattle.levels.specs.declared.fault.ClassFault.{ClassFault}
+use Rattle.std.specs.List.{position}
+use Rattle.refusals.specs.declared.fault.Fault.{Fault}
+use Rattle.levels.specs.declared.fault.ClassCause.{ClassCause}
+use Rattle.levels.specs.declared.fault.ClassTable.{ClassTable}
 use Rattle.levels.specs.declared.fault.ClassTable.TheVariants.{Classes, Lengths, Levels, ParagraphLevel}
-use Rattle.levels.specs.Refusals.{fault_at, one_to_four, byte_count, known, lawful, rows_verdict, count_verdict, verdict, Missized, Judged}
+use Rattle.levels.specs.Refusals.{fault_at, one_to_four, byte_count, known, lawful, refused_at, rows_verdict, count_verdict, verdict, Missized, Judged}
 use Rattle.levels.proofs.Rows.{all_passed, first_failed}
 
 -- each length is right, or some length is wrong
@@ -28,18 +30,18 @@ some_missized (n ∷ lengths) e =
     ]
 
 module _ (paragraph : ℕ) (classes lengths levels : List ℕ) where
-  judged_rows : length classes ≡ length lengths → one_to_four lengths ≡ true → sum lengths ≤ 65535 → sum lengths ≡ length levels → paragraph ≤ 1 → (unknown high : Bool) → ltb (prefix_len known classes) (length classes) ≡ unknown → ltb (prefix_len lawful levels) (length levels) ≡ high → Judged paragraph classes lengths levels (cond unknown (Err (fault_at (prefix_len known classes) Classes)) (cond high (Err (fault_at (prefix_len lawful levels) Levels)) (Ok tt)))
-  judged_rows same each few filled direction true high eu eh = first_failed known classes (ltb-true _ _ eu)
-  judged_rows same each few filled direction false true eu eh = inr (first_failed lawful levels (ltb-true _ _ eh))
-  judged_rows same each few filled direction false false eu eh =
+  judged_rows : length classes ≡ length lengths → one_to_four lengths ≡ true → sum lengths ≤ 65535 → sum lengths ≡ length levels → paragraph ≤ 1 → (unknown high : Option ℕ) → position (λ code. not (known code)) classes ≡ unknown → position (λ level. not (lawful level)) levels ≡ high → Judged paragraph classes lengths levels (refused_at unknown Classes (refused_at high Levels (Ok tt)))
+  judged_rows same each few filled direction (Some row) high eu eh = first_failed known classes row eu
+  judged_rows same each few filled direction None (Some row) eu eh = inr (first_failed lawful levels row eh)
+  judged_rows same each few filled direction None None eu eh =
       record {
         same = same;
         filled = filled;
         short = omega arith;
         direction = direction;
         sized = all_sized lengths each;
-        classed = all_passed known classes (ltb-false _ _ eu);
-        leveled = λ b h. leb-true _ _ (all_passed lawful levels (ltb-false _ _ eh) b h);
+        classed = all_passed known classes eu;
+        leveled = λ b h. leb-true _ _ (all_passed lawful levels eh b h);
       }
 
   judged_paragraph : length classes ≡ length lengths → one_to_four lengths ≡ true → sum lengths ≤ 65535 → sum lengths ≡ length levels → (right : Bool) → leb paragraph 1 ≡ right → Judged paragraph classes lengths levels (cond right (rows_verdict classes levels) (Err (fault_at 0 ParagraphLevel)))
@@ -60,5 +62,5 @@ module _ (paragraph : ℕ) (classes lengths levels : List ℕ) where
   judged_tables true e = judged_lengths (eqb-true _ _ e) _ _ refl refl
 
   -- an answer that is the verdict
-  pub judged : (answer : Result (Unit {0}) ClassFault) → answer ≡ verdict paragraph classes lengths levels → Judged paragraph classes lengths levels answer
+  pub judged : (answer : Result (Unit {0}) (Fault ClassCause ClassTable)) → answer ≡ verdict paragraph classes lengths levels → Judged paragraph classes lengths levels answer
   judged answer e = subst (λ r. Judged paragraph classes lengths levels r) (sym e) (judged_tables _ refl)

@@ -3,3 +3,4 @@ pub mod Faults
 pub mod Refusals
 pub mod RuleL1
 pub mod Runs
+pub mod Tables

@@ -1,15 +1,16 @@
 -- docs/RULES.md, "Level resets (rule L1)"
 -- When the tables of a line are refused, and what the refusal says: the first of these that holds decides.
-use Rattle.std.specs.Prelude.{◌≡◌, ℕ, ◌<◌, ◌≤◌, Bool, true, false, cond, ◌&&◌, ◌⊎◌, List, [], ◌∷◌, length, is_some, Some, None, Ok, Err, sum, Option, Result, ◌==◌, ◌≢◌, nat_le, nat_lt, slice_index}
-use Rattle.std.specs.List.{prefix_len}
-use Rattle.levels.specs.declared.fault.ClassFault.{ClassFault}
+use Rattle.std.specs.Prelude.{◌≡◌, ℕ, ◌<◌, ◌≤◌, Bool, true, false, cond, ◌&&◌, ◌⊎◌, List, [], ◌∷◌, length, is_some, Some, None, Ok, Err, sum, Option, Result, ◌==◌, ◌≢◌, nat_le, not, slice_index}
+use Rattle.std.specs.List.{position}
+use Rattle.refusals.specs.declared.fault.Fault.{Fault}
+use Rattle.levels.specs.declared.fault.ClassCause.{ClassCause}
 use Rattle.levels.specs.declared.fault.ClassCause.TheVariants.{Unfit}
 use Rattle.levels.specs.declared.fault.ClassTable.{ClassTable}
 use Rattle.levels.specs.declared.fault.ClassTable.TheVariants.{Classes, Lengths, Levels, ParagraphLevel}
 use Rattle.levels.specs.Classes.{from_code}
 
 -- a refusal at a row of a table
-abbrev pub fault_at : ℕ → ClassTable → ClassFault
+abbrev pub fault_at : ℕ → ClassTable → Fault ClassCause ClassTable
 fault_at row table = record { cause = Unfit; row = row; table = table }
 
 -- a character has 1 to 4 bytes
@@ -29,15 +30,18 @@ known code = is_some (from_code code)
 abbrev pub lawful : ℕ → Bool
 lawful level = nat_le level 126
 
+-- the refusal of the row that is wrong, if one is, and else what comes after
+abbrev pub refused_at : Option ℕ → ClassTable → Result (Unit {0}) (Fault ClassCause ClassTable) → Result (Unit {0}) (Fault ClassCause ClassTable)
+refused_at (Some row) table after = Err (fault_at row table)
+refused_at None table after = after
+
 -- the first row with an unknown class, then the first byte with a level above 126
-abbrev pub rows_verdict : List ℕ → List ℕ → Result (Unit {0}) ClassFault
+abbrev pub rows_verdict : List ℕ → List ℕ → Result (Unit {0}) (Fault ClassCause ClassTable)
 rows_verdict classes levels =
-    cond (nat_lt (prefix_len known classes) (length classes)) (Err (fault_at (prefix_len known classes) Classes)) (
-    cond (nat_lt (prefix_len lawful levels) (length levels)) (Err (fault_at (prefix_len lawful levels) Levels)) (
-    Ok tt))
+    refused_at (position (λ code. not (known code)) classes) Classes (refused_at (position (λ level. not (lawful level)) levels) Levels (Ok tt))
 
 -- A byte count that is not the number of levels is about the levels; a paragraph has level 0 or 1.
-abbrev pub count_verdict : Option ℕ → ℕ → List ℕ → List ℕ → Result (Unit {0}) ClassFault
+abbrev pub count_verdict : Option ℕ → ℕ → List ℕ → List ℕ → Result (Unit {0}) (Fault ClassCause ClassTable)
 count_verdict None paragraph classes levels = Err (fault_at 0 Lengths)
 count_verdict (Some count) paragraph classes levels =
     cond (count == length levels) (
@@ -46,7 +50,7 @@ count_verdict (Some count) paragraph classes levels =
     Err (fault_at 0 Levels))
 
 -- the verdict on all tables of a line
-abbrev pub verdict : ℕ → List ℕ → List ℕ → List ℕ → Result (Unit {0}) ClassFault
+abbrev pub verdict : ℕ → List ℕ → List ℕ → List ℕ → Result (Unit {0}) (Fault ClassCause ClassTable)
 verdict paragraph classes lengths levels =
     cond (length classes == length lengths) (count_verdict (byte_count lengths) paragraph classes levels) (
     Err (fault_at 0 Lengths))
@@ -86,6 +90,6 @@ Grounds Levels row paragraph classes lengths levels =
     ((row ≡ 0) × (sum lengths ≢ length levels)) ⊎ First lawful levels row
 
 -- what an answer says of the tables
-abbrev pub Judged : ℕ → List ℕ → List ℕ → List ℕ → Result (Unit {0}) ClassFault → Type 0
+abbrev pub Judged : ℕ → List ℕ → List ℕ → List ℕ → Result (Unit {0}) (Fault ClassCause ClassTable) → Type 0
 Judged paragraph classes lengths levels (Ok done) = Fit paragraph classes lengths levels
 Judged paragraph classes lengths levels (Err fault) = Grounds fault.table fault.row paragraph classes lengths levels

@@ -7,10 +7,12 @@ use crate::fault::ClassFault;
 use crate::scan::reset_runs;
 use crate::tables::check_tables;
 
-// Writes the levels after rule L1 over the old ones, of which there is one for each byte: separators, and white space and
-// isolate formatting before one or at the end of the line, get the paragraph's level. `classes` has the raw code of each
-// character's bidi class, and `lengths` its number of bytes. Tables that do not fit together are refused, and the levels
-// stay as they were.
+/// Writes the levels after rule L1 over the old ones, of which there is one for each byte: separators, and white space and
+/// isolate formatting before one or at the end of the line, get the paragraph's level. `classes` has the raw code of each
+/// character's bidi class, and `lengths` its number of bytes. Tables that do not fit together are refused, and the levels
+/// stay as they were.
+//
+// The four tables come one by one, as C hands them over.
 pub fn adjust_levels(
     paragraph_level: u8,
     classes: &[u8],

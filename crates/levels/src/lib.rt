@@ -10,3 +10,4 @@ mod tables;
 pub use adjust::adjust_levels;
 pub use classes::BidiClass;
 pub use fault::{ClassCause, ClassFault, ClassTable};
+pub use refusals::Cause;

@@ -1,7 +1,7 @@
 // The check of a line's tables: a class and a byte length for each character, a level for each byte.
 ghost use Rattle.levels.specs.Refusals.{byte_count, fault_at, known, lawful, verdict};
-ghost use Rattle.std.specs.Prelude.{◌≡◌, Err};
-ghost use Rattle.std.specs.List.{prefix_len};
+ghost use Rattle.std.specs.List.{position};
+ghost use Rattle.std.specs.Prelude.{◌≡◌, not};
 
 use crate::classes::BidiClass;
 use crate::fault::{ClassCause, ClassFault, ClassTable};
@@ -23,7 +23,7 @@ fn byte_count(lengths: &[u8]) -> Option<usize>
         if *length < 1 || *length > LONGEST_CHARACTER {
             return None;
         }
-        total += *length as usize;
+        total += usize::from(*length);
         if total > LONGEST_LINE {
             return None;
         }
@@ -31,43 +31,35 @@ fn byte_count(lengths: &[u8]) -> Option<usize>
     Some(total)
 }
 
-// The first row whose class is unknown, or the number of rows.
-fn first_unknown(classes: &[u8]) -> usize
-    ensures { result ≡ prefix_len known classes.now }
+fn unfit(row: usize, table: ClassTable) -> ClassFault
+    ensures { result ≡ fault_at row table }
 {
-    for (row, code) in classes.iter().enumerate() {
-        if BidiClass::from_code(*code).is_none() {
-            return row;
-        }
-    }
-    classes.len()
-}
-
-// The first byte whose level is too high, or the number of bytes.
-fn first_too_high(levels: &[u8]) -> usize
-    ensures { result ≡ prefix_len lawful levels.now }
-{
-    for (row, level) in levels.iter().enumerate() {
-        if *level > HIGHEST_LEVEL {
-            return row;
-        }
-    }
-    levels.len()
-}
-
-fn refused(row: usize, table: ClassTable) -> Result<(), ClassFault>
-    ensures { result ≡ Err (fault_at row table) }
-{
-    Err(ClassFault {
+    ClassFault {
         cause: ClassCause::Unfit,
         row,
         table,
-    })
+    }
+}
+
+// The first row whose class is unknown.
+fn first_unknown(classes: &[u8]) -> Option<usize>
+    ensures { result ≡ position (λ code. not (known code)) classes.now }
+{
+    classes
+        .iter()
+        .position(|code| BidiClass::try_from(*code).is_err())
+}
+
+// The first byte whose level is too high.
+fn first_too_high(levels: &[u8]) -> Option<usize>
+    ensures { result ≡ position (λ level. not (lawful level)) levels.now }
+{
+    levels.iter().position(|level| *level > HIGHEST_LEVEL)
 }
 
 // Refuses tables that do not fit together. What concerns whole tables comes first, at row 0: the lengths, then the number
 // of levels, then the paragraph's level. Then comes the first row that is wrong, of the classes before that of the levels.
-pub fn check_tables(
+pub(crate) fn check_tables(
     paragraph_level: u8,
     classes: &[u8],
     lengths: &[u8],
@@ -76,24 +68,22 @@ pub fn check_tables(
     ensures { result ≡ verdict paragraph_level classes.now lengths.now levels.now }
 {
     if classes.len() != lengths.len() {
-        return refused(0, ClassTable::Lengths);
+        return Err(unfit(0, ClassTable::Lengths));
     }
     let Some(count) = byte_count(lengths) else {
-        return refused(0, ClassTable::Lengths);
+        return Err(unfit(0, ClassTable::Lengths));
     };
     if count != levels.len() {
-        return refused(0, ClassTable::Levels);
+        return Err(unfit(0, ClassTable::Levels));
     }
     if paragraph_level > 1 {
-        return refused(0, ClassTable::ParagraphLevel);
+        return Err(unfit(0, ClassTable::ParagraphLevel));
     }
-    let unknown = first_unknown(classes);
-    if unknown < classes.len() {
-        return refused(unknown, ClassTable::Classes);
+    if let Some(row) = first_unknown(classes) {
+        return Err(unfit(row, ClassTable::Classes));
     }
-    let too_high = first_too_high(levels);
-    if too_high < levels.len() {
-        return refused(too_high, ClassTable::Levels);
+    if let Some(row) = first_too_high(levels) {
+        return Err(unfit(row, ClassTable::Levels));
     }
     Ok(())
 }

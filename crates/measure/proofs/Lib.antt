@@ -1,4 +1,2 @@
-pub mod LayerLaws
 pub mod PointTests
 pub mod RowNumbers
-pub mod RowSteps

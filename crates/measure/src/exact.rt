@@ -5,6 +5,9 @@ ghost use Rattle.measure.specs.Exact.{Exact};
 use crate::measure::Measure;
 use glyph::glyph::Glyph;
 
+/// The largest number that a glyph means.
+pub(crate) const MOST: u32 = 131_071;
+
 /// A measure that counts in whole numbers.
 ///
 /// Each width means a whole number, each glyph one of 0 to 131,071, and the measure's answers are those of whole numbers while sums stay below

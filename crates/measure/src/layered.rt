@@ -7,7 +7,7 @@ use crate::measure::Measure;
 use glyph::glyph::Glyph;
 
 /// An exact measure with a layer over it: each glyph means its changed number, and all else is asked of the measure below.
-#[derive(Clone, Copy)]
+#[derive(Clone, Copy, Drop)]
 pub struct Layered<L, M> {
     layer: L,
     inner: M,
@@ -26,7 +26,7 @@ impl<L: Layer, M: ExactMeasure> Measure for Layered<L, M> {
 
     const NIL: M::Width = M::NIL;
 
-    ghost nil_of = { λ t. M.Measure.nil_of t.inner };
+    ghost NIL = { M.Measure.NIL };
 
     ghost width_of = { λ t g. M.ExactMeasure.width_of_number (L.Layer.changed t.layer (M.ExactMeasure.number_of_glyph t.inner g)) };
 
@@ -39,10 +39,6 @@ impl<L: Layer, M: ExactMeasure> Measure for Layered<L, M> {
     ghost half_of = { λ t. M.Measure.half_of t.inner };
 
     ghost lawful_of = { λ t. M.Measure.lawful_of t.inner };
-
-    fn zero(&self) -> M::Width {
-        self.inner.zero()
-    }
 
     fn width(&self, g: &Glyph) -> M::Width {
         self.inner.from_number(self.glyph_number(g))
@@ -77,7 +73,6 @@ impl<L: Layer, M: ExactMeasure> ExactMeasure for Layered<L, M> {
     ghost width_of_number = { M.ExactMeasure.width_of_number };
 
     fn exact(&self) {
-        self.layer.stays_small();
         self.inner.exact();
     }
 

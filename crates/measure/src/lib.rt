@@ -2,6 +2,7 @@
 #![tactic(auto)]
 
 pub mod cells;
+pub mod counting;
 pub mod exact;
 pub mod layer;
 pub mod layered;
@@ -11,4 +12,5 @@ pub mod rows;
 pub mod settings;
 pub mod tracking;
 pub mod units;
-mod whole;
+
+pub use refusals::Cause;

@@ -11,10 +11,10 @@ pub trait Measure {
     /// What a width is.
     type Width: Copy;
 
-    /// The width of nothing. No clause can name an associated constant, so generic code asks `zero`, which each measure answers by this constant.
+    /// The width of nothing.
     const NIL: Self::Width;
 
-    ghost nil_of: { Self → Self.Width };
+    ghost NIL: { Self.Width };
 
     ghost width_of: { Self → Glyph → Self.Width };
 
@@ -27,10 +27,6 @@ pub trait Measure {
     ghost half_of: { Self → Self.Width → Self.Width };
 
     ghost lawful_of: { Self → Self.Width → Bool };
-
-    /// The nil width.
-    fn zero(&self) -> Self::Width
-        ensures { result ≡ nil_of self.now };
 
     /// A glyph's width.
     fn width(&self, g: &Glyph) -> Self::Width

@@ -27,7 +27,7 @@ impl Points {
         if size_in_range(size) {
             Ok(Points { size })
         } else {
-            Err(SettingFault::out_of_range(SettingName::Size))
+            Err(SettingName::Size.out_of_range())
         }
     }
 }
@@ -37,7 +37,7 @@ impl Measure for Points {
 
     const NIL: f32 = 0.0;
 
-    ghost nil_of = { λ _. float_0 };
+    ghost NIL = { float_0 };
 
     ghost width_of = { λ m g. point_width m.size g };
 
@@ -50,10 +50,6 @@ impl Measure for Points {
     ghost half_of = { λ _ a. point_half a };
 
     ghost lawful_of = { λ _ a. point_lawful a };
-
-    fn zero(&self) -> f32 {
-        Self::NIL
-    }
 
     fn width(&self, g: &Glyph) -> f32 {
         g.size.unwrap_or(self.size) * g.advance
@@ -73,6 +69,7 @@ impl Measure for Points {
         if rest > 0.0 { rest } else { 0.0 }
     }
 
+    #[tactic(auto, using(crate::proofs::PointTests::bits_2))]
     fn half(&self, a: f32) -> f32 {
         a / 2.0
     }

@@ -1,22 +1,22 @@
 // What is told to whoever sets up a measure with a number outside its range.
-ghost use Rattle.measure.specs.Settings.{cause_number};
-ghost use Rattle.std.specs.Prelude.{◌≡◌};
+ghost use Rattle.measure.specs.Settings.{cause_number, setting_name, outside};
+ghost use Rattle.std.specs.Prelude.{◌≡◌, Some};
+
+use refusals::{Cause, Fault};
+use std::fmt;
 
 /// Why a setting is refused.
 #[derive(Clone, Copy, PartialEq, Eq, Debug)]
 pub enum SettingCause {
     /// The number lies outside the setting's range.
-    OutOfRange,
+    OutOfRange = 12,
 }
 
-impl SettingCause {
-    /// The cause's number among all refusals.
-    pub fn number(self) -> u8
-        ensures { result ≡ cause_number self }
-    {
-        match self {
-            SettingCause::OutOfRange => 12,
-        }
+impl Cause for SettingCause {
+    ghost number_of = { cause_number };
+
+    fn number(self) -> u8 {
+        self as u8
     }
 }
 
@@ -29,23 +29,29 @@ pub enum SettingName {
     Spacing,
 }
 
-/// A refused setting. A setting has no rows, so the row is always 0.
-#[derive(Clone, Copy, PartialEq, Eq, Debug)]
-pub struct SettingFault {
-    pub cause: SettingCause,
-    pub row: usize,
-    pub table: SettingName,
-}
-
-impl SettingFault {
-    /// A setting outside its range.
-    pub fn out_of_range(table: SettingName) -> SettingFault
-        ensures { result ≡ record { cause = SettingCause.OutOfRange; row = 0; table = table } }
+impl SettingName {
+    /// The refusal of this setting outside its range.
+    pub fn out_of_range(self) -> SettingFault
+        ensures { result ≡ outside self }
     {
-        SettingFault {
+        Fault {
             cause: SettingCause::OutOfRange,
             row: 0,
-            table,
+            table: self,
         }
     }
 }
+
+impl fmt::Display for SettingName {
+    ghost output = { λ s. Some (setting_name s) };
+
+    fn fmt<W: fmt::Write>(&self, f: &mut fmt::Formatter<W>) -> fmt::Result {
+        f.write_str(match self {
+            SettingName::Size => "size",
+            SettingName::Spacing => "spacing",
+        })
+    }
+}
+
+/// A refused setting. A setting has no rows, so the row is always 0.
+pub type SettingFault = Fault<SettingCause, SettingName>;

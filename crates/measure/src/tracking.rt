@@ -1,14 +1,14 @@
 // Tracking: space added to each glyph.
 ghost use Rattle.std.specs.Prelude.{◌≡◌, ◌≤◌, nat_le};
+ghost use Rattle.std.proofs.Common.{rules};
 ghost use Rattle.measure.specs.Layers.{tracked};
 ghost use Rattle.measure.specs.Settings.{SetUp};
 ghost use Rattle.measure.specs.declared.settings.SettingName.TheVariants.{Spacing};
 
-use crate::exact::ExactMeasure;
+use crate::exact::{ExactMeasure, MOST};
 use crate::layer::Layer;
 use crate::layered::Layered;
 use crate::settings::{SettingFault, SettingName};
-use crate::whole;
 
 /// The largest spacing.
 const WIDEST_SPACING: u32 = 1_023;
@@ -28,14 +28,16 @@ impl LetterSpacing {
         if spacing <= WIDEST_SPACING {
             Ok(LetterSpacing { spacing })
         } else {
-            Err(SettingFault::out_of_range(SettingName::Spacing))
+            Err(SettingName::Spacing.out_of_range())
         }
     }
+}
+
+impl Default for LetterSpacing {
+    ghost is_default = { λ s. s.spacing ≡ 0 };
 
     /// No spacing at all.
-    pub fn none() -> LetterSpacing
-        ensures { result.spacing ≡ 0 }
-    {
+    fn default() -> LetterSpacing {
         LetterSpacing { spacing: 0 }
     }
 }
@@ -43,13 +45,13 @@ impl LetterSpacing {
 impl Layer for LetterSpacing {
     ghost changed = { λ s n. tracked s.spacing n };
 
-    fn stays_small(&self) {}
+    ghost stays_small = { Prim.search rules };
 
     fn change(&self, n: u32) -> u32 {
         if n == 0 {
             0
         } else {
-            whole::capped(n.saturating_add(self.spacing))
+            n.saturating_add(self.spacing).min(MOST)
         }
     }
 }

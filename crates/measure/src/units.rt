@@ -1,84 +1,19 @@
 // Widths in 64ths of a pixel.
-ghost use Rattle.measure.specs.Whole.{whole_sum, whole_half, whole_lawful};
-ghost use Rattle.std.specs.Prelude.{◌≡◌, ◌-◌, nat_lt};
+ghost use Rattle.std.proofs.Common.{rules};
 
-use crate::exact::ExactMeasure;
-use crate::measure::Measure;
-use crate::whole;
+use crate::counting::Counting;
 use glyph::glyph::Glyph;
 
 /// The measure in 64ths of a pixel: a glyph's width is its advance in them.
 #[derive(Clone, Copy)]
 pub struct Units;
 
-impl Measure for Units {
-    type Width = u32;
+impl Counting for Units {
+    ghost count_of = { λ _ g. g.units };
 
-    const NIL: u32 = 0;
+    ghost counts_small = { Prim.search rules };
 
-    ghost nil_of = { λ _. 0 };
-
-    ghost width_of = { λ _ g. g.units };
-
-    ghost sum_of = { λ _ a b. whole_sum a b };
-
-    ghost over_of = { λ _ a b. nat_lt b a };
-
-    ghost difference_of = { λ _ a b. a - b };
-
-    ghost half_of = { λ _ a. whole_half a };
-
-    ghost lawful_of = { λ _ a. whole_lawful a };
-
-    fn zero(&self) -> u32 {
-        Self::NIL
-    }
-
-    fn width(&self, g: &Glyph) -> u32
-        ensures { result ≡ g.now.units }
-    {
+    fn count(&self, g: &Glyph) -> u32 {
         u32::from(g.units)
-    }
-
-    fn sum(&self, a: u32, b: u32) -> u32 {
-        whole::sum(a, b)
-    }
-
-    fn over(&self, a: u32, b: u32) -> bool {
-        whole::over(a, b)
-    }
-
-    fn difference(&self, a: u32, b: u32) -> u32 {
-        whole::difference(a, b)
-    }
-
-    fn half(&self, a: u32) -> u32 {
-        whole::half(a)
-    }
-
-    fn lawful(&self, a: u32) -> bool {
-        whole::lawful(a)
-    }
-}
-
-impl ExactMeasure for Units {
-    ghost number = { λ a. a };
-
-    ghost number_of_glyph = { λ _ g. g.units };
-
-    ghost width_of_number = { λ n. n };
-
-    fn exact(&self) {}
-
-    fn number_of(&self, a: u32) -> u32 {
-        a
-    }
-
-    fn from_number(&self, n: u32) -> u32 {
-        whole::capped(n)
-    }
-
-    fn glyph_number(&self, g: &Glyph) -> u32 {
-        self.width(g)
     }
 }

@@ -10,8 +10,9 @@ use measure::cells::Cells;
 use measure::layered::Layered;
 use measure::measure::Measure;
 use measure::rows::row_width;
+use measure::settings::SettingFault;
 use measure::units::Units;
-use measure_text::named::{NamedMeasure, read_measure};
+use measure_text::named::{NameCause, NameFault, NamedMeasure, read_measure};
 use nested::nested_number;
 use std::fmt::Display;
 use std::io;
@@ -53,37 +54,46 @@ const ROW: [Glyph; 4] = [
 ];
 
 // Any measure whose widths can be written.
-fn report<W: Display + Copy, M: Measure<Width = W>>(
-    rt: &HostRuntime,
-    name: &str,
-    m: &M,
-) -> io::Result<()> {
+fn report<M: Measure>(rt: &HostRuntime, name: &str, m: &M) -> io::Result<()>
+where
+    M::Width: Display,
+{
     let width = row_width(m, &ROW);
     println!(rt; "{name}: {width}")
 }
 
-fn report_named(rt: &HostRuntime, name: &str) -> io::Result<()> {
-    let named = match read_measure(name) {
-        Ok(named) => named,
-        Err(fault) => return println!(rt; "{name}: {fault:?}"),
+// Why a text names no measure, with a refused setting under a name that says what it is.
+fn report_fault(rt: &HostRuntime, name: &str, fault: NameFault) -> io::Result<()> {
+    let NameCause::Setting(refused) = fault.cause else {
+        return println!(rt; "{name}: {fault:?}");
     };
-    match named {
-        NamedMeasure::Points(points) => report(rt, name, &points),
-        NamedMeasure::Units(pile) => report(rt, name, &Layered::of(pile, Units)),
-        NamedMeasure::Cells(pile) => report(rt, name, &Layered::of(pile, Cells)),
-        NamedMeasure::Lawless => report(rt, name, &measure_text::lawless::Lawless),
+    let SettingFault { cause, row, table } = refused;
+    let word = fault.word;
+    println!(rt;
+        "{name}: NameFault {{ cause: Setting(SettingFault {{ cause: {cause:?}, row: {row}, table: {table:?} }}), word: {word} }}"
+    )
+}
+
+fn report_named(rt: &HostRuntime, name: &str) -> io::Result<()> {
+    match read_measure(name) {
+        Ok(NamedMeasure::Points(points)) => report(rt, name, &points),
+        Ok(NamedMeasure::Units(pile)) => report(rt, name, &Layered::of(pile, Units)),
+        Ok(NamedMeasure::Cells(pile)) => report(rt, name, &Layered::of(pile, Cells)),
+        Ok(NamedMeasure::Lawless) => report(rt, name, &measure_text::lawless::Lawless),
+        Err(fault) => report_fault(rt, name, fault),
     }
 }
 
 fn main(rt: HostRuntime) -> io::Result<()> {
     for line in rt.lines(rt.alloc()) {
         let line = line?;
-        match line.as_str() {
-            "short" => report(&rt, "short", &Short)?,
-            "ems" => report(&rt, "ems", &Ems)?,
-            "nested" => println!(rt; "nested: {:?}", nested_number(&ROW))?,
-            "lawless" => report(&rt, "lawless", &Lawless { key: 1000 })?,
-            name => report_named(&rt, name)?,
+        let name = line.as_str();
+        match name {
+            "short" => report(&rt, name, &Short)?,
+            "ems" => report(&rt, name, &Ems)?,
+            "lawless" => report(&rt, name, &Lawless { key: 1000 })?,
+            "nested" => println!(rt; "{name}: {:?}", nested_number(&ROW))?,
+            _ => report_named(&rt, name)?,
         }
     }
     Ok(())

@@ -1,7 +1,7 @@
 // Measures of somebody else: they owe no law beyond their own answers, and the same generic code takes them.
 ghost use Rattle.std.specs.Prelude.{◌+◌, ◌-◌, ◌/◌, min, true, false, not, ◌==◌, bit_xor, from_bits, nat_lt};
 ghost use Rattle.std.specs.Float.{binary32};
-ghost use Rattle.std.specs.Float.Ieee.{add, sub, lt};
+ghost use Rattle.std.specs.Float.Ieee.{add, sub, lt, neg};
 
 use glyph::glyph::Glyph;
 use measure::measure::Measure;
@@ -15,7 +15,7 @@ impl Measure for Short {
 
     const NIL: u16 = 0;
 
-    ghost nil_of = { λ _. 0 };
+    ghost NIL = { 0 };
 
     ghost width_of = { λ _ g. g.units };
 
@@ -28,10 +28,6 @@ impl Measure for Short {
     ghost half_of = { λ _ a. a / 2 };
 
     ghost lawful_of = { λ _ _. true };
-
-    fn zero(&self) -> u16 {
-        Self::NIL
-    }
 
     fn width(&self, g: &Glyph) -> u16 {
         g.units
@@ -67,7 +63,7 @@ impl Measure for Ems {
 
     const NIL: f32 = -1.0;
 
-    ghost nil_of = { λ _. from_bits binary32 3212836864 };
+    ghost NIL = { neg (from_bits binary32 1065353216) };
 
     ghost width_of = { λ _ g. g.advance };
 
@@ -80,10 +76,6 @@ impl Measure for Ems {
     ghost half_of = { λ _ a. a };
 
     ghost lawful_of = { λ _ a. lt a a };
-
-    fn zero(&self) -> f32 {
-        Self::NIL
-    }
 
     fn width(&self, g: &Glyph) -> f32 {
         g.advance
@@ -121,7 +113,7 @@ impl Measure for Lawless {
 
     const NIL: u32 = 5;
 
-    ghost nil_of = { λ _. 5 };
+    ghost NIL = { 5 };
 
     ghost width_of = { λ m g. bit_xor g.start m.key };
 
@@ -134,10 +126,6 @@ impl Measure for Lawless {
     ghost half_of = { λ m a. bit_xor a m.key };
 
     ghost lawful_of = { λ _ _. false };
-
-    fn zero(&self) -> u32 {
-        Self::NIL
-    }
 
     fn width(&self, g: &Glyph) -> u32 {
         u32::from(g.start) ^ self.key

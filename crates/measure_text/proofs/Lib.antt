@@ -1,1 +1,1 @@
-pub mod PileLaws
+pub mod Over

@@ -1,1 +1,2 @@
+pub mod PileLaws
 pub mod Piles

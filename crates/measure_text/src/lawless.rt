@@ -14,7 +14,7 @@ impl Measure for Lawless {
 
     const NIL: u32 = 7;
 
-    ghost nil_of = { λ _. 7 };
+    ghost NIL = { 7 };
 
     ghost width_of = { λ _ g. (31 * g.units + 17 * g.cells + 5) % 64 };
 
@@ -27,10 +27,6 @@ impl Measure for Lawless {
     ghost half_of = { λ _ a. 255 - a % 256 };
 
     ghost lawful_of = { λ _ a. not ((a % 4) == 1) };
-
-    fn zero(&self) -> u32 {
-        Self::NIL
-    }
 
     fn width(&self, g: &Glyph) -> u32 {
         (31 * u32::from(g.units) + 17 * u32::from(g.cells) + 5) % 64

@@ -1,7 +1,5 @@
 // Measures by their names in text: `points SIZE`, `lawless`, or `units` or `cells` and then up to 8 times `tracking SPACING`, the innermost first.
 // A size is a decimal number, or 0x and the bits of an f32 in hex.
-ghost use Rattle.std.specs.Prelude.{◌≡◌, ◌-◌, Err};
-
 use crate::pile::Pile;
 use crate::words::Words;
 use measure::points::Points;
@@ -40,81 +38,63 @@ pub struct NameFault {
     pub word: usize,
 }
 
-fn fault<T>(words: &Words<'_>, cause: NameCause) -> Result<T, NameFault>
-    ensures { result ≡ Err record { cause = cause; word = words.now.read - 1 } }
-{
-    Err(NameFault {
+/// The measure that a text names.
+pub fn read_measure(text: &str) -> Result<NamedMeasure, NameFault> {
+    let mut words = Words::new(text);
+    read_named(&mut words).map_err(|cause| NameFault {
         cause,
         word: words.place(),
     })
 }
 
-/// The measure that a text names.
-pub fn read_measure(text: &str) -> Result<NamedMeasure, NameFault> {
-    let mut words = Words::new(text);
+// What is wrong is so at the word last asked for.
+fn read_named(words: &mut Words<'_>) -> Result<NamedMeasure, NameCause> {
     match words.next_word() {
-        Some("points") => Ok(NamedMeasure::Points(read_points(&mut words)?)),
-        Some("units") => Ok(NamedMeasure::Units(read_pile(&mut words)?)),
-        Some("cells") => Ok(NamedMeasure::Cells(read_pile(&mut words)?)),
-        Some("lawless") => ended(&mut words, NamedMeasure::Lawless),
-        _ => fault(&words, NameCause::NoMeasure),
+        Some("points") => Ok(NamedMeasure::Points(read_points(words)?)),
+        Some("units") => Ok(NamedMeasure::Units(read_pile(words)?)),
+        Some("cells") => Ok(NamedMeasure::Cells(read_pile(words)?)),
+        Some("lawless") => ended(words, NamedMeasure::Lawless),
+        _ => Err(NameCause::NoMeasure),
     }
 }
 
 // The value, if the text ends here.
-fn ended<T: Drop>(words: &mut Words<'_>, value: T) -> Result<T, NameFault> {
+fn ended<T: Drop>(words: &mut Words<'_>, value: T) -> Result<T, NameCause> {
     match words.next_word() {
         None => Ok(value),
-        Some(_) => fault(words, NameCause::Strange),
+        Some(_) => Err(NameCause::Strange),
     }
 }
 
-fn read_points(words: &mut Words<'_>) -> Result<Points, NameFault> {
-    let Some(size) = read_size(words) else {
-        return fault(words, NameCause::NoNumber);
-    };
-    let points = match Points::new(size) {
-        Ok(points) => points,
-        Err(refused) => return fault(words, NameCause::Setting(refused)),
-    };
+fn read_points(words: &mut Words<'_>) -> Result<Points, NameCause> {
+    let size = read_size(words).ok_or(NameCause::NoNumber)?;
+    let points = Points::new(size).map_err(NameCause::Setting)?;
     ended(words, points)
 }
 
+// The library of the program `strip` reads floats so, too, with a contract in words of its own format; to share these five lines would be no plainer.
 fn read_size(words: &mut Words<'_>) -> Option<f32> {
     let word = words.next_word()?;
     match word.strip_prefix("0x") {
         Some(bits) => Some(f32_from_bits_with_nan(u32::from_str_radix(bits, 16).ok()?)),
-        None => word.parse::<f32>().ok(),
+        None => word.parse().ok(),
     }
 }
 
-fn read_pile(words: &mut Words<'_>) -> Result<Pile, NameFault> {
+fn read_pile(words: &mut Words<'_>) -> Result<Pile, NameCause> {
     let mut pile = Pile::new();
-    // one round more than the trackings that a pile holds, to see the text end
-    for _ in 0..9 {
-        match words.next_word() {
-            None => return Ok(pile),
-            Some("tracking") => pile = read_tracking(words, pile)?,
-            Some(_) => return fault(words, NameCause::Strange),
+    while let Some(word) = words.next_word() {
+        if word != "tracking" {
+            return Err(NameCause::Strange);
         }
+        let over = read_spacing(words)?;
+        pile = pile.with(over).ok_or(NameCause::TooMany)?;
     }
-    fault(words, NameCause::TooMany)
+    Ok(pile)
 }
 
-fn read_tracking(words: &mut Words<'_>, pile: Pile) -> Result<Pile, NameFault> {
-    let Some(spacing) = read_spacing(words) else {
-        return fault(words, NameCause::NoNumber);
-    };
-    let layer = match LetterSpacing::new(spacing) {
-        Ok(layer) => layer,
-        Err(refused) => return fault(words, NameCause::Setting(refused)),
-    };
-    match pile.with(layer) {
-        Some(pile) => Ok(pile),
-        None => fault(words, NameCause::TooMany),
-    }
-}
-
-fn read_spacing(words: &mut Words<'_>) -> Option<u32> {
-    words.next_word()?.parse::<u32>().ok()
+fn read_spacing(words: &mut Words<'_>) -> Result<LetterSpacing, NameCause> {
+    let word = words.next_word().ok_or(NameCause::NoNumber)?;
+    let spacing = word.parse().map_err(|_| NameCause::NoNumber)?;
+    LetterSpacing::new(spacing).map_err(NameCause::Setting)
 }

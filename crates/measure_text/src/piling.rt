@@ -1,6 +1,7 @@
 // What a pile of trackings does to a number, and how it grows.
-ghost use Rattle.std.specs.Prelude.{◌≡◌, ℕ, ◌+◌, [], MatchOption};
+ghost use Rattle.std.specs.Prelude.{◌≡◌, ℕ, ◌+◌, ◌≤◌, [], MatchOption};
 ghost use Rattle.measure.specs.Layers.{tracked};
+ghost use Rattle.measure_text.specs.PileLaws.{all_small};
 ghost use Rattle.measure_text.specs.Piles.{piled, pile_number};
 
 use crate::pile::Pile;
@@ -13,7 +14,7 @@ impl Pile {
         ensures { piled result ≡ [] }
     {
         Pile {
-            spacings: [LetterSpacing::none(); 8],
+            spacings: [LetterSpacing::default(); 8],
             used: 0,
         }
     }
@@ -37,13 +38,11 @@ impl Pile {
 impl Layer for Pile {
     ghost changed = { pile_number };
 
-    fn stays_small(&self) {}
+    ghost stays_small = { λ p. all_small (piled p) };
 
     fn change(&self, n: u32) -> u32 {
-        let mut number = n;
-        for i in 0..self.used {
-            number = self.spacings[i].change(number);
-        }
-        number
+        self.spacings[..self.used]
+            .iter()
+            .fold(n, |number, spacing| spacing.change(number))
     }
 }

@@ -3,7 +3,7 @@ ghost use Rattle.std.specs.Prelude.{◌≡◌, ◌+◌, ◌-◌, ◌^◌, min};
 
 use std::str::SplitWhitespace;
 
-/// What is left of a text's words, and how many were read.
+/// What is left of a text's words, and how many were asked for: one that is missing has a place too, so `enumerate` would not tell it.
 #[derive(Drop)]
 pub struct Words<'a> {
     left: SplitWhitespace<'a>,

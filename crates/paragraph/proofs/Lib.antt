@@ -2,7 +2,6 @@ pub mod Rows
 pub mod Tiling
 pub mod Failing
 pub mod Verdicts
-pub mod Holding
 pub mod Growth
 pub mod Countings
 pub mod Ranking

@@ -6,7 +6,7 @@ use Rattle.glyph.specs.declared.glyph.Glyph.{Glyph}
 use Rattle.glyph.specs.Ranges.{glyph_in}
 use Rattle.paragraph.specs.declared.fault.TableCause.{TableCause}
 use Rattle.paragraph.specs.declared.fault.TableCause.TheVariants.{TooManyRows, GlyphField, WordPair, SpanRow, Ellipsis}
-use Rattle.paragraph.specs.declared.fault.TableFault.{TableFault}
+use Rattle.paragraph.specs.Faults.{TableFault}
 use Rattle.paragraph.specs.declared.fault.TableName.{TableName}
 use Rattle.paragraph.specs.declared.fault.TableName.TheVariants as table
 use Rattle.paragraph.specs.declared.word.Word.{Word}

@@ -10,3 +10,4 @@ pub mod Ranks
 pub mod Before
 pub mod Parts
 pub mod Laws
+pub mod Aheads

@@ -5,10 +5,9 @@ use Rattle.glyph.specs.declared.glyph.Glyph.{Glyph}
 use Rattle.glyph.specs.Ranges.{glyph_in}
 use Rattle.paragraph.specs.declared.fault.TableCause.{TableCause}
 use Rattle.paragraph.specs.declared.fault.TableCause.TheVariants as cause
-use Rattle.paragraph.specs.declared.fault.TableFault.{TableFault}
 use Rattle.paragraph.specs.declared.fault.TableName.{TableName}
 use Rattle.paragraph.specs.declared.fault.TableName.TheVariants as table
-use Rattle.paragraph.specs.Faults.{fault}
+use Rattle.paragraph.specs.Faults.{fault, TableFault}
 use Rattle.paragraph.specs.Pieces.{word_piece, span_piece, first_loose, first_failing}
 use Rattle.paragraph.specs.Text.{Text}
 

@@ -4,7 +4,7 @@ ghost use Rattle.paragraph.specs.Lent.{lent};
 ghost use Rattle.paragraph.specs.Lawful.{GrantedExactly, RefusedExactly};
 ghost use Rattle.paragraph.specs.Pieces.{first_failing, first_loose};
 ghost use Rattle.paragraph.specs.Verdict.{verdict, rows_verdict, glyphs_verdict, words_verdict, spans_verdict, ellipsis_verdict, limited, refused_at};
-ghost use Rattle.std.specs.Prelude.{◌≡◌};
+ghost use Rattle.std.specs.Prelude.{◌≡◌, not, position};
 
 use crate::fault::{TableCause, TableFault, TableName};
 use crate::row::Row;
@@ -21,17 +21,13 @@ const MOST_ELLIPSIS_GLYPHS: usize = 16;
 
 // The first glyph with a field out of its range.
 fn first_out_of_range(glyphs: &[Glyph]) -> Option<usize>
-    ensures { result ≡ first_failing glyph_in 0 glyphs.now }
+    ensures { result ≡ position (λ g. not (glyph_in g)) glyphs.now }
 {
-    for (i, glyph) in glyphs.iter().enumerate() {
-        if !glyph.in_range() {
-            return Some(i);
-        }
-    }
-    None
+    glyphs.iter().position(|glyph| !glyph.in_range())
 }
 
-// The first row that does not go on where the one before it ended, or the row after the last if they end short of the `n` rows below.
+// The first row that does not go on where the one before it ended, or the row after the last if they end short of the `n` rows below. A loop, since the
+// place is carried along, which `position` does not do.
 fn first_loose<R: Row>(rows: &[R], n: usize) -> Option<usize>
     ensures { result ≡ first_loose R.Row.piece_of n 0 0 rows.now }
 {
@@ -76,6 +72,7 @@ fn check_row_counts(tables: Tables<'_>) -> Result<(), TableFault>
     limit(TableName::Spans, MOST_SPANS, tables.spans.len())
 }
 
+#[tactic(auto, using(crate::proofs::Rows::failing_position))]
 fn check_glyphs(tables: Tables<'_>) -> Result<(), TableFault>
     ensures { result ≡ glyphs_verdict (lent tables.entry) }
 {
@@ -106,6 +103,7 @@ fn check_spans(tables: Tables<'_>) -> Result<(), TableFault>
     )
 }
 
+#[tactic(auto, using(crate::proofs::Rows::failing_position))]
 fn check_ellipsis(ellipsis: &[Glyph]) -> Result<(), TableFault>
     ensures { result ≡ ellipsis_verdict ellipsis.now }
 {

@@ -1,16 +1,21 @@
-// Positions in lent tables that are sound: which exist, and what is ahead of them.
-//
-// A paragraph's own functions have no condition; these are for them and for walks over its tables, which `Paragraph::tables` says are sound.
-ghost use Rattle.std.specs.Prelude.{◌≡◌, ◌+◌, ◌-◌, ◌<◌, ◌≤◌, true};
+// Positions in sound tables: which exist, and what is ahead of them.
+ghost use Rattle.std.specs.Prelude.{◌≡◌, ◌+◌, ◌≤◌, false, length, MatchOption};
+ghost use Rattle.paragraph.specs.Aheads.{text_at};
 ghost use Rattle.paragraph.specs.Lent.{lent};
 ghost use Rattle.paragraph.specs.Ranks.{rank, ahead_count};
-ghost use Rattle.paragraph.specs.Reading.{place_in, glyphs_of_word, exists, edge, opening, closing, begin, boundary};
-ghost use Rattle.paragraph.specs.Text.{Sound};
+ghost use Rattle.paragraph.specs.Reading.{place_in, glyphs_of_word, exists, ahead, edge, opening, closing, begin, boundary};
 
+use crate::ahead::Ahead;
 use crate::direction::Direction;
 use crate::place::{Place, Position};
 use crate::span::Span;
-use crate::tables::Tables;
+use crate::tables::{SoundTables, Tables};
+
+// The one position that exists where there are no spans.
+const BEGINNING: Position = Position {
+    span: 0,
+    place: Place { word: 0, glyph: 0 },
+};
 
 impl Place {
     /// The place before a word of a span, or at the span's end.
@@ -55,14 +60,24 @@ impl Tables<'_> {
             place: self.span_at(0).opening(self.direction),
         }
     }
+}
 
-    // How many glyphs a word of a span has, none where no word stands.
+impl<'a> SoundTables<'a> {
+    /// Where an entry begins.
+    pub fn begin(self) -> Position
+        ensures { result ≡ begin (lent self.entry.rows) }
+    {
+        self.rows.begin()
+    }
+
+    // How many glyphs a word of a span has, none where no word stands. That a span ends in its table is asked three times: a type for it would be made anew
+    // at each lookup, which is no plainer.
     fn glyphs_of_word(self, span: Span, word: usize) -> usize
         requires { span.offset + span.len ≤ 4096 }
-        ensures { result ≡ glyphs_of_word (lent self.entry) span word }
+        ensures { result ≡ glyphs_of_word (lent self.entry.rows) span word }
     {
         if word < span.len {
-            self.word_at(span.offset + word).len
+            self.rows.word_at(span.offset + word).len
         } else {
             0
         }
@@ -70,58 +85,74 @@ impl Tables<'_> {
 
     fn place_in(self, span: Span, place: Place) -> bool
         requires { span.offset + span.len ≤ 4096 }
-        ensures { result ≡ place_in (lent self.entry) span place }
+        ensures { result ≡ place_in (lent self.entry.rows) span place }
     {
         place.word <= span.len && place.glyph <= self.glyphs_of_word(span, place.word)
     }
 
     /// Whether a position exists. Without spans (0, 0, 0) is the one that does.
     pub fn exists(self, position: Position) -> bool
-        requires { Sound (lent self) }
-        ensures { result ≡ exists (lent self.entry) position }
+        ensures { result ≡ exists (lent self.entry.rows) position }
     {
-        if self.spans.is_empty() {
-            position.span == 0 && position.place.word == 0 && position.place.glyph == 0
+        if self.rows.spans.is_empty() {
+            position == BEGINNING
         } else {
-            position.span < self.spans.len()
-                && self.place_in(self.span_at(position.span), position.place)
+            position.span < self.rows.spans.len()
+                && self.place_in(self.rows.span_at(position.span), position.place)
         }
     }
 
     /// How many glyphs of the table stand before a place of a span.
     pub fn boundary(self, span: Span, place: Place) -> usize
-        requires sound { Sound (lent self) }
         requires word { span.offset + place.word ≤ 4096 }
         requires glyph { place.glyph ≤ 16384 }
-        ensures { result ≡ boundary (lent self.entry) span place }
+        ensures { result ≡ boundary (lent self.entry.rows) span place }
     {
-        self.word_at(span.offset + place.word).offset + place.glyph
+        self.rows.word_at(span.offset + place.word).offset + place.glyph
     }
 
-    /// How many glyphs of reading order stand before a position.
-    pub fn rank(self, position: Position) -> usize
-        requires sound { Sound (lent self) }
-        requires there { exists (lent self) position ≡ true }
-        ensures { result ≡ rank (lent self.entry) position }
+    /// What is ahead of a position, if it exists.
+    pub fn ahead_of(self, position: Position) -> Option<Ahead<'a>>
+        ensures { MatchOption result (exists (lent self.entry.rows) position ≡ false) (λ a. (a.tables ≡ self.entry) × (a.position ≡ position)) }
     {
-        let s = position.span;
-        let span = self.span_at(s);
-        let at = self.boundary(span, position.place);
-        if self.direction.is_congruent(span.level) {
-            at
+        if self.exists(position) {
+            Some(Ahead {
+                tables: self,
+                position,
+            })
         } else {
-            self.start_of(s) + self.start_of(s + 1) - at
+            None
         }
     }
 
     /// How many glyphs are ahead of a position, if it exists. Offsets suffice: no glyph is read.
     pub fn ahead_count(self, position: Position) -> Option<usize>
-        requires { Sound (lent self) }
-        ensures { result ≡ ahead_count (lent self.entry) position }
+        ensures { result ≡ ahead_count (lent self.entry.rows) position }
     {
-        if !self.exists(position) {
-            return None;
+        Some(self.ahead_of(position)?.count())
+    }
+}
+
+impl Ahead<'_> {
+    /// How many glyphs of reading order stand before the position.
+    pub fn rank(self) -> usize
+        ensures { result ≡ rank (text_at self.entry) self.entry.position }
+    {
+        let s = self.position.span;
+        let rows = self.tables.rows;
+        let span = rows.span_at(s);
+        let at = self.tables.boundary(span, self.position.place);
+        if rows.direction.is_congruent(span.level) {
+            at
+        } else {
+            rows.start_of(s) + rows.start_of(s + 1) - at
         }
-        Some(self.glyphs.len() - self.rank(position))
+    }
+
+    /// How many glyphs are ahead. Offsets suffice: no glyph is read.
+    pub fn count(self) -> usize
+        ensures { result ≡ length (ahead (text_at self.entry) self.entry.position) }
+    {
+        self.tables.rows.glyphs.len() - self.rank()
     }
 }

@@ -1,9 +1,10 @@
 // A paragraph's tables, their check, and the geometry of positions in them.
 //
-// The records: word, span, place, direction, tables. The check: fault, piece, row, check. What was checked: paragraph.
+// The records: word, span, place, direction, tables, ahead. The check: fault, piece, row, check. What was checked: paragraph.
 // The geometry: reading, lookup, geometry, before, part. How it fits together: laws.
 #![tactic(auto)]
 
+pub mod ahead;
 pub mod before;
 pub mod check;
 pub mod direction;
@@ -20,3 +21,5 @@ pub mod row;
 pub mod span;
 pub mod tables;
 pub mod word;
+
+pub use refusals::Cause;

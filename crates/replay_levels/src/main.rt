@@ -7,8 +7,10 @@ ghost use Rattle.levels.specs.Refusals.{verdict};
 ghost use Rattle.levels.specs.RuleL1.{adjusted};
 ghost use Rattle.std.specs.Prelude.{◌≡◌, true, is_ok};
 
+use anyhow::Context;
 use levels::{BidiClass, adjust_levels};
-use std::alloc::{AllocError, AllocFailed, Global};
+use replay::read_numbers;
+use std::alloc::Global;
 use std::io::{BufRead, BufReader};
 
 #[derive(Drop)]
@@ -20,57 +22,27 @@ struct Case {
     expected: Vec<u8>,
 }
 
-#[derive(Drop)]
-enum BadLine {
-    FieldMissing,
-    NotANumber,
-    NotAClass,
-    NoMemory,
+fn numbers(heap: Global, field: &str) -> anyhow::Result<Vec<u8>> {
+    read_numbers(heap, field.split_whitespace())
 }
 
-impl From<AllocError> for BadLine {
-    fn from(_: AllocError) -> BadLine {
-        BadLine::NoMemory
+// The raw codes of the classes that are named.
+fn codes(heap: Global, field: &str) -> anyhow::Result<Vec<u8>> {
+    let mut codes = Vec::new(heap);
+    for name in field.split_whitespace() {
+        codes.push(BidiClass::from_name(name).context("no class")?.code())?;
     }
+    Ok(codes)
 }
 
-impl<T: Drop> From<AllocFailed<T>> for BadLine {
-    fn from(_: AllocFailed<T>) -> BadLine {
-        BadLine::NoMemory
-    }
-}
-
-fn number(text: &str) -> Result<u8, BadLine> {
-    match text.parse::<u8>() {
-        Ok(n) => Ok(n),
-        Err(_) => Err(BadLine::NotANumber),
-    }
-}
-
-fn numbers(heap: Global, field: &str) -> Result<Vec<u8>, BadLine> {
-    let mut all = Vec::new(heap);
-    for word in field.split_whitespace() {
-        all.push(number(word)?)?;
-    }
-    Ok(all)
-}
-
-fn codes(heap: Global, field: &str) -> Result<Vec<u8>, BadLine> {
-    let mut all = Vec::new(heap);
-    for word in field.split_whitespace() {
-        let class = BidiClass::from_name(word).ok_or(BadLine::NotAClass)?;
-        all.push(class.code())?;
-    }
-    Ok(all)
-}
-
-fn read_case(heap: Global, line: &str) -> Result<Case, BadLine> {
+fn read_case(heap: Global, line: &str) -> anyhow::Result<Case> {
     let mut fields = line.split(';');
-    let paragraph_level = number(fields.next().ok_or(BadLine::FieldMissing)?.trim())?;
-    let classes = codes(heap, fields.next().ok_or(BadLine::FieldMissing)?)?;
-    let lengths = numbers(heap, fields.next().ok_or(BadLine::FieldMissing)?)?;
-    let levels = numbers(heap, fields.next().ok_or(BadLine::FieldMissing)?)?;
-    let expected = numbers(heap, fields.next().ok_or(BadLine::FieldMissing)?)?;
+    let mut field = || fields.next().context("a field is missing");
+    let paragraph_level = field()?.trim().parse::<u8>()?;
+    let classes = codes(heap, field()?)?;
+    let lengths = numbers(heap, field()?)?;
+    let levels = numbers(heap, field()?)?;
+    let expected = numbers(heap, field()?)?;
     Ok(Case {
         paragraph_level,
         classes,
@@ -80,37 +52,31 @@ fn read_case(heap: Global, line: &str) -> Result<Case, BadLine> {
     })
 }
 
-// Whether the line is granted and its levels come out as expected.
-fn agrees(
-    paragraph_level: u8,
-    classes: &[u8],
-    lengths: &[u8],
-    levels: &mut [u8],
-    expected: &[u8],
-) -> bool
-    ensures { result ≡ true → (is_ok (verdict paragraph_level classes.now lengths.now levels.old) ≡ true) × (adjusted paragraph_level classes.now lengths.now levels.old ≡ expected.now) }
-{
-    match adjust_levels(paragraph_level, classes, lengths, levels) {
-        Ok(()) => *levels == *expected,
-        Err(_) => false,
+impl Case {
+    // Whether the line is granted and its levels, which are written over, come out as expected.
+    fn agrees(&mut self) -> bool
+        ensures { result ≡ true → (is_ok (verdict self.old.paragraph_level self.old.classes.items self.old.lengths.items self.old.levels.items) ≡ true) × (adjusted self.old.paragraph_level self.old.classes.items self.old.lengths.items self.old.levels.items ≡ self.old.expected.items) }
+    {
+        adjust_levels(
+            self.paragraph_level,
+            &self.classes,
+            &self.lengths,
+            &mut self.levels,
+        )
+        .is_ok()
+            && self.levels == self.expected
     }
 }
 
 // What is wrong with a line, if anything is.
 fn complaint(heap: Global, line: &str) -> Option<&'static str> {
-    let Ok(mut case) = read_case(heap, line) else {
-        return Some("is not a case");
-    };
-    let agreed = agrees(
-        case.paragraph_level,
-        &case.classes,
-        &case.lengths,
-        &mut case.levels,
-        &case.expected,
-    );
-    if agreed { None } else { Some("differs") }
+    match read_case(heap, line) {
+        Ok(mut case) => (!case.agrees()).then_some("differs"),
+        Err(_) => Some("is not a case"),
+    }
 }
 
+// Not `replay::replay`, which goes on behind a line that differs, and ends at one that is no case with an error: this ends at either with its line.
 fn main(rt: HostRuntime) -> anyhow::Result<()> {
     let mut count: u64 = 0;
     for line in BufReader::new(rt.alloc(), rt.stdin())?.lines(rt.alloc()) {

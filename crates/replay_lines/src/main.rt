@@ -12,7 +12,9 @@
 // Prints how many lines there are and how many of them are answered otherwise here, and the first of those.
 #![tactic(auto)]
 
-use anyhow::anyhow;
+ghost use Rattle.std.specs.Prelude.{◌<◌};
+
+use anyhow::{Context, bail};
 use glyph::glyph::Glyph;
 use layout::layout_line::layout_line;
 use layout::line::{Ellipsize, VisualLine};
@@ -21,97 +23,82 @@ use paragraph::direction::Direction;
 use paragraph::paragraph::Paragraph;
 use paragraph::place::{Place, Position};
 use paragraph::span::Span;
+use paragraph::tables::OwnedTables;
 use paragraph::word::Word;
-use std::alloc::{AllocError, Global};
-use std::io::Read;
+use replay::{read_numbers, replay};
+use std::alloc::Global;
 use std::num::{f32_from_bits_with_nan, f32_to_bits_with_nan};
 use walk::line::VlRange;
 
-// The numbers of a part of a case, with single spaces between them.
+// The numbers of a part of a case, with spaces between them.
 fn numbers(heap: Global, part: &str) -> anyhow::Result<Vec<u32>> {
-    let mut numbers = Vec::new(heap);
-    for word in part.split(' ') {
-        if !word.is_empty() {
-            numbers.push(word.parse::<u32>()?)?;
-        }
-    }
-    Ok(numbers)
+    read_numbers(heap, part.split(' ').filter(|word| !word.is_empty()))
 }
 
-// Each row of numbers takes its own from the front of a part.
-fn at(numbers: &[u32], i: usize) -> u32 {
-    match numbers.get(i) {
-        Some(n) => *n,
-        None => 0,
+// The rows of a part, of so many numbers each, and what each stands for.
+fn rows<T: Drop, F: Fn(&[u32]) -> T>(
+    heap: Global,
+    part: &str,
+    size: usize,
+    made: F,
+) -> anyhow::Result<Vec<T>>
+    requires size { 0 < size }
+    requires made { F.IsAlwaysCallable made }
+{
+    let numbers = numbers(heap, part)?;
+    let mut table = Vec::new(heap);
+    for row in numbers.as_slice().chunks(size) {
+        table.push(made(row))?;
     }
+    Ok(table)
 }
 
+// The first numbers of a row. Those that it lacks are 0: stored cases are numbers, so zeros, flags and codes stand for options and modes.
+fn first_of<const N: usize>(row: &[u32]) -> [u32; N] {
+    let mut first = [0; N];
+    for (number, given) in first.iter_mut().zip(row) {
+        *number = *given;
+    }
+    first
+}
+
+// A number's lower half, and its lowest byte: `try_from` would refuse numbers that are read so.
 fn small(n: u32) -> u16 {
-    (n % 65536) as u16
+    (n % 65_536) as u16
 }
 
 fn tiny(n: u32) -> u8 {
     (n % 256) as u8
 }
 
-fn made_glyph(start: u16, end: u16, advance: f32, size: Option<f32>) -> Glyph {
+fn glyph_in(row: &[u32]) -> Glyph {
+    let [start, end, advance, has_size, size] = first_of::<5>(row);
     Glyph {
-        start,
-        end,
-        advance,
-        size,
+        start: small(start),
+        end: small(end),
+        advance: f32_from_bits_with_nan(advance),
+        size: (has_size != 0).then_some(f32_from_bits_with_nan(size)),
         units: 0,
         cells: 0,
     }
 }
 
-fn glyph_in(row: &[u32]) -> Glyph {
-    let size = if at(row, 3) == 0 {
-        None
-    } else {
-        Some(f32_from_bits_with_nan(at(row, 4)))
-    };
-    made_glyph(
-        small(at(row, 0)),
-        small(at(row, 1)),
-        f32_from_bits_with_nan(at(row, 2)),
-        size,
-    )
+fn word_in(row: &[u32]) -> Word {
+    let [blank, offset, len] = first_of::<3>(row);
+    Word {
+        blank: blank != 0,
+        offset: offset as usize,
+        len: len as usize,
+    }
 }
 
-fn glyphs_in(heap: Global, part: &str) -> anyhow::Result<Vec<Glyph>> {
-    let numbers = numbers(heap, part)?;
-    let mut glyphs = Vec::new(heap);
-    for row in numbers.as_slice().chunks(5) {
-        glyphs.push(glyph_in(row))?;
+fn span_in(row: &[u32]) -> Span {
+    let [level, offset, len] = first_of::<3>(row);
+    Span {
+        level: tiny(level),
+        offset: offset as usize,
+        len: len as usize,
     }
-    Ok(glyphs)
-}
-
-fn words_in(heap: Global, part: &str) -> anyhow::Result<Vec<Word>> {
-    let numbers = numbers(heap, part)?;
-    let mut words = Vec::new(heap);
-    for row in numbers.as_slice().chunks(3) {
-        words.push(Word {
-            blank: at(row, 0) != 0,
-            offset: at(row, 1) as usize,
-            len: at(row, 2) as usize,
-        })?;
-    }
-    Ok(words)
-}
-
-fn spans_in(heap: Global, part: &str) -> anyhow::Result<Vec<Span>> {
-    let numbers = numbers(heap, part)?;
-    let mut spans = Vec::new(heap);
-    for row in numbers.as_slice().chunks(3) {
-        spans.push(Span {
-            level: tiny(at(row, 0)),
-            offset: at(row, 1) as usize,
-            len: at(row, 2) as usize,
-        })?;
-    }
-    Ok(spans)
 }
 
 // What is asked.
@@ -126,64 +113,47 @@ struct Question {
 
 fn question_in(heap: Global, part: &str) -> anyhow::Result<Question> {
     let numbers = numbers(heap, part)?;
-    let row = numbers.as_slice();
-    let place = Place {
-        word: at(row, 2) as usize,
-        glyph: at(row, 3) as usize,
-    };
+    let [rtl, span, word, glyph, mode, has_width, width, size] = first_of::<8>(numbers.as_slice());
     Ok(Question {
-        direction: if at(row, 0) == 0 {
+        direction: if rtl == 0 {
             Direction::LeftToRight
         } else {
             Direction::RightToLeft
         },
         position: Position {
-            span: at(row, 1) as usize,
-            place,
+            span: span as usize,
+            place: Place {
+                word: word as usize,
+                glyph: glyph as usize,
+            },
         },
-        mode: match at(row, 4) {
+        mode: match mode {
             1 => Ellipsize::Start,
             2 => Ellipsize::Middle,
             3 => Ellipsize::End,
             _ => Ellipsize::None,
         },
-        width: if at(row, 5) == 0 {
-            None
-        } else {
-            Some(f32_from_bits_with_nan(at(row, 6)))
-        },
-        size: f32_from_bits_with_nan(at(row, 7)),
+        width: (has_width != 0).then_some(f32_from_bits_with_nan(width)),
+        size: f32_from_bits_with_nan(size),
     })
 }
 
 // A number of the answer; those of a case are below 2^32.
 fn told(n: usize) -> u32 {
-    match u32::try_from(n) {
-        Ok(n) => n,
-        Err(_) => u32::MAX,
-    }
+    u32::try_from(n).unwrap_or(u32::MAX)
 }
 
-// The ranges as the row of numbers that a case has for them.
-fn range_numbers(heap: Global, ranges: &[VlRange]) -> Result<Vec<u32>, AllocError> {
-    let mut row = Vec::new(heap);
-    for r in ranges {
-        let (named, span) = match r.span {
-            Some(span) => (1, told(span)),
-            None => (0, 0),
-        };
-        let places = [
-            named,
-            span,
-            told(r.start.word),
-            told(r.start.glyph),
-            told(r.end.word),
-            told(r.end.glyph),
-            u32::from(r.level),
-        ];
-        row.extend_from_slice(&places)?;
-    }
-    Ok(row)
+// A range, and a line besides its ranges, as the numbers that a case has for them.
+fn range_numbers(range: &VlRange) -> [u32; 7] {
+    [
+        u32::from(range.span.is_some()),
+        range.span.map_or(0, told),
+        told(range.start.word),
+        told(range.start.glyph),
+        told(range.end.word),
+        told(range.end.glyph),
+        u32::from(range.level),
+    ]
 }
 
 fn line_numbers(line: &VisualLine<f32>) -> [u32; 5] {
@@ -209,86 +179,54 @@ fn is_expected(
     line: &[u32],
 ) -> anyhow::Result<bool> {
     let Ok(points) = Points::new(q.size) else {
-        return Err(anyhow!("a size out of range"));
+        bail!("a size out of range");
     };
-    if !paragraph.exists(q.position) {
-        return Err(anyhow!("a position that does not exist"));
-    }
     let tables = paragraph.tables();
-    let nowhere = Place { word: 0, glyph: 0 };
-    let unused = VlRange {
-        span: None,
-        start: nowhere,
-        end: nowhere,
-        level: 0,
+    let Some(ahead) = tables.ahead_of(q.position) else {
+        bail!("a position that does not exist");
     };
-    let mut list = vec![in heap; unused; tables.spans.len() + 2]?;
+    let mut list = vec![in heap; VlRange::default(); tables.rows.spans.len() + 2]?;
     let got = layout_line(
         &points,
-        tables,
+        ahead,
         paragraph.ellipsis(),
-        q.position,
         q.mode,
         q.width,
         0,
         list.as_mut_slice(),
     );
-    if got.ranges > list.len() {
+    let Some(laid) = list.as_slice().get(..got.ranges) else {
         return Ok(false);
+    };
+    let mut shown = Vec::new(heap);
+    for range in laid {
+        shown.extend_from_slice(&range_numbers(range))?;
     }
-    let shown = range_numbers(heap, &list.as_slice()[0..got.ranges])?;
     Ok(shown.as_slice() == ranges && line_numbers(&got).as_slice() == line)
 }
 
-// The parts of a case.
-fn part<'a>(parts: &[&'a str], i: usize) -> anyhow::Result<&'a str> {
-    match parts.get(i) {
-        Some(part) => Ok(*part),
-        None => Err(anyhow!("a part is missing")),
-    }
-}
-
 fn agrees(heap: Global, case: &str) -> anyhow::Result<bool> {
-    let mut parts: Vec<&str> = Vec::new(heap);
-    for p in case.split(';') {
-        parts.push(p)?;
-    }
-    let parts = parts.as_slice();
-    let q = question_in(heap, part(parts, 0)?)?;
-    let glyphs = glyphs_in(heap, part(parts, 1)?)?;
-    let words = words_in(heap, part(parts, 2)?)?;
-    let spans = spans_in(heap, part(parts, 3)?)?;
-    let ellipsis = glyphs_in(heap, part(parts, 4)?)?;
-    let ranges = numbers(heap, part(parts, 5)?)?;
-    let line = numbers(heap, part(parts, 6)?)?;
+    let mut parts = case.split(';');
+    let mut part = || parts.next().context("a part is missing");
+    let q = question_in(heap, part()?)?;
+    let tables = OwnedTables {
+        glyphs: rows(heap, part()?, 5, glyph_in)?,
+        words: rows(heap, part()?, 3, word_in)?,
+        spans: rows(heap, part()?, 3, span_in)?,
+        ellipsis: rows(heap, part()?, 5, glyph_in)?,
+        direction: q.direction,
+    };
+    let ranges = numbers(heap, part()?)?;
+    let line = numbers(heap, part()?)?;
     let mut paragraph = Paragraph::empty(heap);
-    if paragraph
-        .fill(glyphs, words, spans, ellipsis, q.direction)
-        .is_err()
-    {
-        return Err(anyhow!("tables that are refused"));
-    }
+    let Ok(()) = paragraph.fill(tables) else {
+        bail!("tables that are refused");
+    };
     is_expected(heap, &paragraph, q, ranges.as_slice(), line.as_slice())
 }
 
-fn run(rt: &HostRuntime) -> anyhow::Result<()> {
-    let mut text = String::new(rt.alloc());
-    rt.stdin().read_to_string(&mut text)?;
-    let mut cases: usize = 0;
-    let mut differ: usize = 0;
-    for case in text.lines() {
-        cases = cases.saturating_add(1);
-        if !agrees(rt.alloc(), case)? {
-            if differ == 0 {
-                println!(rt; "line {cases} differs: {case}")?;
-            }
-            differ = differ.saturating_add(1);
-        }
-    }
-    println!(rt; "{cases} lines, {differ} differ")?;
-    Ok(())
-}
-
 fn main(rt: HostRuntime) -> anyhow::Result<()> {
-    run(&rt)
+    let tally = replay(&rt, |heap, case| agrees(heap, case))?;
+    println!(rt; "{tally}")?;
+    Ok(())
 }

@@ -1,5 +1,5 @@
 -- What a caller reads off a call's result and the two lists is its answer
-use Rattle.std.proofs.Common.{◌≡◌, ℕ, ◌-◌, List, map, length, take, drop, Some, None, Ok, Err, Option, Result, sym, refl, ap, ◌∙◌, subst, MatchResult}
+use Rattle.std.proofs.Common.{◌≡◌, ℕ, ◌-◌, List, map, length, Option, Result, sym, refl, ◌∙◌, subst, arith, MatchResult}
 use lib.ListN.{length-map}
 use Rattle.entry.specs.Entries.{measure_of, progress_of}
 use Rattle.entry.specs.Lines.{after_close, after_take, taken_line}
@@ -9,7 +9,7 @@ use Rattle.entry.specs.Verdict.{line_verdict, take_verdict}
 use Rattle.entry.specs.declared.call.Call.{Call}
 use Rattle.entry.specs.declared.call.Call.TheVariants.{Take, Close}
 use Rattle.entry.specs.declared.entry.Entry.{Entry}
-use Rattle.entry.specs.declared.fault.CallFault.{CallFault}
+use Rattle.entry.specs.Faults.{CallFault}
 use Rattle.entry.specs.declared.fault.EntryFault.{EntryFault}
 use Rattle.entry.specs.declared.progress.Progress.{Progress}
 use Rattle.layout.specs.Lines.{Line, closing_line, line_ranges}
@@ -19,19 +19,14 @@ use Rattle.measure.specs.Rows.{row_width}
 use Rattle.measure.specs.declared.measure.Measure.{Ghosts}
 use Rattle.paragraph.specs.Holds.{ellipsis_of, text_of}
 use Rattle.paragraph.specs.declared.paragraph.Paragraph.{Paragraph}
-use Rattle.runs.specs.Events.{ByCall, Performs, ReadOff, answer_of}
+use Rattle.runs.specs.Events.{Performs, ReadOff, answer_of}
 use Rattle.runs.specs.Performing.{called_on}
 use Rattle.runs.specs.declared.event.Event.{Event}
 use Rattle.runs.specs.declared.fault.RunFault.{RunFault}
 use Rattle.runs.specs.declared.fault.RunFault.TheVariants.{Memory}
-use Rattle.std.proofs.lemmas.List.{take_at}
+use Rattle.std.proofs.lemmas.Grind.{common_steps}
 use Rattle.visual_order.specs.Laws.{OnceLaw}
 use Rattle.walk.specs.declared.line.VlRange.{VlRange}
-
-pub line_read : {W : Type 0} (r : Result (VisualLine W) EntryFault) (line : VisualLine W) (ranges rs : List VlRange) (order os : List ℕ) →
-    r ≡ Ok line → rs ≡ take line.ranges ranges → os ≡ take line.ranges order → ReadOff r ranges order (laid rs os line)
-line_read {W} r line ranges rs order os is f g =
-    subst (λ (x : Result (VisualLine W) EntryFault). ReadOff x ranges order (laid rs os line)) (sym is) (λ i. laid (f i) (g i) line)
 
 -- a line tells how many ranges it has, and its order has as many places
 abbrev WellTold : {W : Type 0} → Answer W → Type 0
@@ -40,38 +35,19 @@ WellTold (refused f) = Unit {0}
 WellTold (counted n) = Unit {0}
 
 unless_told : {W : Type 0} (q : Progress) (v : Option CallFault) (granted : Outcome W) → WellTold granted.answer → WellTold (unless q v granted).answer
-unless_told q (Some f) granted h = tt
-unless_told q None granted h = h
+unless_told q v granted h = grind (arith, common_steps)
 
 module _ {W : Type 0} (r : Result (VisualLine W) EntryFault) (ranges ranges_after : List VlRange) (order order_after : List ℕ) where
-  pub by_call : (a : Answer W) → Answered a r ranges ranges_after order order_after → ByCall r
-  by_call (laid rs os line) h = subst (λ (x : Result (VisualLine W) EntryFault). ByCall x) (sym h.0) tt
-  by_call (refused f) h = subst (λ (x : Result (VisualLine W) EntryFault). ByCall x) (sym h.0) tt
-  by_call (counted n) h = absurd h
-
   read_same : (a read : Answer W) → Answered a r ranges ranges_after order order_after → WellTold a → ReadOff r ranges_after order_after read → read ≡ a
-  read_same (laid rs os line) read h told off =
-      subst (λ (x : Result (VisualLine W) EntryFault). ReadOff x ranges_after order_after read) h.0 off
-      ∙ (λ i. laid (its_ranges i) (its_order i) line)
-    where
-      its_ranges : take line.ranges ranges_after ≡ rs
-      its_ranges = ap (take line.ranges) h.1 ∙ take_at rs (drop (length rs) ranges) line.ranges (sym told.0)
-
-      its_order : take line.ranges order_after ≡ os
-      its_order = ap (take line.ranges) h.2 ∙ take_at os (drop (length os) order) line.ranges (told.1 ∙ sym told.0)
-  read_same (refused f) read h told off = subst (λ (x : Result (VisualLine W) EntryFault). ReadOff x ranges_after order_after read) h.0 off
-  read_same (counted n) read h told off = absurd h
+  read_same a read h told off = grind (arith, common_steps)
 
   module _ {S : Type 0} (before after : Entry S) (o : Outcome W) (comes : ComesTo o before after r ranges ranges_after order order_after)
       (told : WellTold o.answer) where
     performs : (made : Result (Event W) RunFault) → MatchResult made (λ event. ReadOff r ranges_after order_after (answer_of event)) (λ e. e ≡ Memory) → MatchResult made (Performs o before after) (λ e. e ≡ Memory)
-    performs (Ok event) off =
-        record {
-          measure_kept = comes.measure_kept;
-          progress_is = comes.progress_is;
-          answer_is = read_same o.answer (answer_of event) comes.answer_is told off;
-        }
-    performs (Err e) none = none
+    performs made off =
+        let same = read_same o.answer in
+        let is = comes.answer_is in
+        grind (arith, common_steps)
 
 module _ {S W : Type 0} (k : Ghosts S W) (once : OnceLaw) (before after : Entry S) (p : Paragraph) (c : Call W) (r : Result (VisualLine W) EntryFault)
     (ranges ranges_after : List VlRange)

@@ -1,13 +1,12 @@
 -- Which calls are refused, by what the log tells
-use Rattle.std.proofs.Common.{◌≡◌, ℕ, ◌+◌, ◌-◌, ◌<◌, ◌≤◌, Bool, true, false, not, eqb, ltb, List, length, Some, None, Option, sym, refl, ap, ◌∙◌, arith}
+use Rattle.std.proofs.Common.{◌≡◌, ℕ, ◌+◌, ◌-◌, ◌<◌, ◌≤◌, Bool, true, false, not, eqb, ltb, List, length, Some, None, Option, sym, refl, ◌∙◌, arith}
 use mathlib.Core.Bool.{false≢true}
-use Rattle.entry.specs.Faults.{fault}
+use Rattle.entry.specs.Faults.{CallFault, fault}
 use Rattle.entry.specs.Lines.{after_close, after_take, taken_line}
 use Rattle.entry.specs.Steps.{Outcome, close_step, lawful_width, line_answer, refused, standing, take_step, unless}
 use Rattle.entry.specs.Verdict.{known, line_verdict, or_nothing_left, take_verdict}
 use Rattle.entry.specs.declared.fault.CallCause.{CallCause}
 use Rattle.entry.specs.declared.fault.CallCause.TheVariants as cause
-use Rattle.entry.specs.declared.fault.CallFault.{CallFault}
 use Rattle.entry.specs.declared.fault.CallTable.{CallTable}
 use Rattle.entry.specs.declared.fault.CallTable.TheVariants as table
 use Rattle.entry.specs.declared.progress.Progress.{Progress}
@@ -20,6 +19,7 @@ use Rattle.runs.proofs.Standing.{is_known}
 use Rattle.runs.specs.Laws.{Amiss, CaseOf, Refused, TooShort}
 use Rattle.runs.specs.Log.{Recorded, ahead_now, closed}
 use Rattle.runs.specs.Standing.{Stands}
+use Rattle.std.proofs.lemmas.Grind.{common_steps}
 use Rattle.std.proofs.lemmas.List.{nil_from_length}
 use Rattle.std.proofs.lemmas.Bool.{both_ways, cond_both, eqb-false, eqb-true, ltb-false, ltb-true, not-false, not-true}
 
@@ -46,60 +46,20 @@ module _ {W : Type 0} (t : Text) (ranges order : ℕ) (past : List (Recorded W))
 
   -- a list that is long enough is not too short
   not_short : length t.spans + 2 ≤ ranges → length t.spans + 2 ≤ order → (row : ℕ) (about : CallTable) → TooShort (length t.spans) ranges order row about → ⊥
-  not_short r o row table.Entry h = h
-  not_short r o row table.Paragraph h = h
-  not_short r o row table.Width h = h
-  not_short r o row table.Ranges h = omega arith
-  not_short r o row table.Order h = omega arith
+  not_short r o row about h = grind (arith, common_steps)
 
   no_case : Clear t ranges order past lawful → (take ≡ true → 0 < length (ahead_now t past)) → (why : CallCause) (row : ℕ) (about : CallTable) → CaseOf t ranges order past take lawful why row about → ⊥
-  no_case c some cause.Closed row about h = both_ways (closed past) c.still h.0
-  no_case c some cause.Stranger row about h = h
-  no_case c some cause.UnlawfulWidth row about h = both_ways lawful h.1 c.fit
-  no_case c some cause.ListTooShort row about h = not_short c.ranges_long c.order_long row about h.2
-  no_case c some cause.NothingLeft row about h = omega (arith, some h.4, ap length h.5)
+  no_case c some why row about h = grind (arith, common_steps)
 
   pub nothing_amiss : ToldAll None → (f : CallFault) → Amiss t ranges order past take lawful f → ⊥
   nothing_amiss (c, some) f h = no_case c some f.cause f.row f.table h
 
   -- no two causes have their case at once
   one_list : (row other : ℕ) (about another : CallTable) → TooShort (length t.spans) ranges order row about → TooShort (length t.spans) ranges order other another → fault cause.ListTooShort row about ≡ fault cause.ListTooShort other another
-  one_list row other table.Entry another h i = absurd h
-  one_list row other table.Paragraph another h i = absurd h
-  one_list row other table.Width another h i = absurd h
-  one_list row other table.Ranges table.Entry h i = absurd i
-  one_list row other table.Ranges table.Paragraph h i = absurd i
-  one_list row other table.Ranges table.Width h i = absurd i
-  one_list row other table.Ranges table.Ranges h i = ap (λ (n : ℕ). fault cause.ListTooShort n table.Ranges) (h.1 ∙ sym i.1)
-  one_list row other table.Ranges table.Order h i = absurd (omega arith)
-  one_list row other table.Order table.Entry h i = absurd i
-  one_list row other table.Order table.Paragraph h i = absurd i
-  one_list row other table.Order table.Width h i = absurd i
-  one_list row other table.Order table.Ranges h i = absurd (omega arith)
-  one_list row other table.Order table.Order h i = ap (λ (n : ℕ). fault cause.ListTooShort n table.Order) (h.2 ∙ sym i.2)
+  one_list row other about another h i = grind (arith, common_steps)
 
   one_case : (why whence : CallCause) (row other : ℕ) (about another : CallTable) → CaseOf t ranges order past take lawful why row about → CaseOf t ranges order past take lawful whence other another → fault why row about ≡ fault whence other another
-  one_case cause.Stranger whence row other about another h i = absurd h
-  one_case cause.Closed cause.Stranger row other about another h i = absurd i
-  one_case cause.Closed cause.Closed row other about another h i = λ j. fault cause.Closed ((h.1 ∙ sym i.1) j) ((h.2 ∙ sym i.2) j)
-  one_case cause.Closed cause.UnlawfulWidth row other about another h i = absurd (both_ways (closed past) i.0 h.0)
-  one_case cause.Closed cause.ListTooShort row other about another h i = absurd (both_ways (closed past) i.0 h.0)
-  one_case cause.Closed cause.NothingLeft row other about another h i = absurd (both_ways (closed past) i.0 h.0)
-  one_case cause.UnlawfulWidth cause.Stranger row other about another h i = absurd i
-  one_case cause.UnlawfulWidth cause.Closed row other about another h i = absurd (both_ways (closed past) h.0 i.0)
-  one_case cause.UnlawfulWidth cause.UnlawfulWidth row other about another h i = λ j. fault cause.UnlawfulWidth ((h.2 ∙ sym i.2) j) ((h.3 ∙ sym i.3) j)
-  one_case cause.UnlawfulWidth cause.ListTooShort row other about another h i = absurd (both_ways lawful h.1 i.1)
-  one_case cause.UnlawfulWidth cause.NothingLeft row other about another h i = absurd (both_ways lawful h.1 i.1)
-  one_case cause.ListTooShort cause.Stranger row other about another h i = absurd i
-  one_case cause.ListTooShort cause.Closed row other about another h i = absurd (both_ways (closed past) h.0 i.0)
-  one_case cause.ListTooShort cause.UnlawfulWidth row other about another h i = absurd (both_ways lawful i.1 h.1)
-  one_case cause.ListTooShort cause.ListTooShort row other about another h i = one_list row other about another h.2 i.2
-  one_case cause.ListTooShort cause.NothingLeft row other about another h i = absurd (not_short i.2 i.3 row about h.2)
-  one_case cause.NothingLeft cause.Stranger row other about another h i = absurd i
-  one_case cause.NothingLeft cause.Closed row other about another h i = absurd (both_ways (closed past) h.0 i.0)
-  one_case cause.NothingLeft cause.UnlawfulWidth row other about another h i = absurd (both_ways lawful i.1 h.1)
-  one_case cause.NothingLeft cause.ListTooShort row other about another h i = absurd (not_short h.2 h.3 other another i.2)
-  one_case cause.NothingLeft cause.NothingLeft row other about another h i = λ j. fault cause.NothingLeft ((h.6 ∙ sym i.6) j) ((h.7 ∙ sym i.7) j)
+  one_case why whence row other about another h i = grind (arith, common_steps)
 
   pub refused_rightly : (f : CallFault) → Amiss t ranges order past take lawful f → Refused t ranges order past take lawful f
   refused_rightly f h =
@@ -108,8 +68,7 @@ module _ {W : Type 0} (t : Text) (ranges order : ℕ) (past : List (Recorded W))
   -- what holds of a refusal with what is amiss and, where nothing is, of what is granted, holds of what a call comes to
   either_way : (R : Outcome W → Type 0) (q : Progress) (granted : Outcome W) (v : Option CallFault) → ToldAll v →
       ((f : CallFault) → Amiss t ranges order past take lawful f → R (record { progress = q; answer = refused f })) → (ToldAll None → R granted) → R (unless q v granted)
-  either_way R q granted (Some f) told not_so so = not_so f told
-  either_way R q granted None told not_so so = so told
+  either_way R q granted v told not_so so = grind (arith, common_steps)
 
 module _ {W : Type 0} (t : Text) (laws : ReadingLaws t) (ranges order : ℕ) (past : List (Recorded W)) (q : Progress) (s : Stands t past q) (lawful : Bool) where
   line_tells : (take : Bool) → Told t ranges order past take lawful (line_verdict t q lawful ranges order)

@@ -6,7 +6,7 @@ use Rattle.entry.specs.declared.call.Call.{Call}
 use Rattle.entry.specs.declared.call.Call.TheVariants.{Take, Close, Count}
 use Rattle.entry.specs.declared.fault.CallCause.{CallCause}
 use Rattle.entry.specs.declared.fault.CallCause.TheVariants as cause
-use Rattle.entry.specs.declared.fault.CallFault.{CallFault}
+use Rattle.entry.specs.Faults.{CallFault}
 use Rattle.entry.specs.declared.fault.CallTable.{CallTable}
 use Rattle.entry.specs.declared.fault.CallTable.TheVariants as table
 use Rattle.entry.specs.declared.progress.Progress.{Progress}

@@ -10,7 +10,8 @@ use Rattle.measure.specs.Rows.{row_width}
 use Rattle.measure.specs.declared.measure.Measure.{Ghosts}
 use Rattle.paragraph.specs.Holds.{ellipsis_of, text_of}
 use Rattle.paragraph.specs.Lawful.{FirstFault, Lawful}
-use Rattle.paragraph.specs.Text.{Text, text}
+use Rattle.paragraph.specs.Lent.{text_in}
+use Rattle.paragraph.specs.Text.{Text}
 use Rattle.paragraph.specs.declared.paragraph.Paragraph.{Paragraph}
 use Rattle.runs.specs.declared.event.Event.{Event}
 use Rattle.runs.specs.declared.fault.RunFault.{RunFault}
@@ -30,12 +31,12 @@ answers_on k e p ranges order calls =
     answers k (measure_of e) (text_of p) (row_width k (measure_of e) (ellipsis_of p)) (length ranges) (length order) (progress_of e) calls
 
 abbrev pub text_on : {S : Type 0} → Opening S → Text
-text_on on = text (vec_items on.glyphs) (vec_items on.words) (vec_items on.spans) on.direction
+text_on on = text_in on.tables
 
 -- what they answer on an entry that was just opened
 abbrev pub opened_answers : {S W : Type 0} → Ghosts S W → Opening S → ℕ → ℕ → List (Call W) → List (Answer W)
 opened_answers k on ranges order calls =
-    answers k on.measure (text_on on) (row_width k on.measure (vec_items on.ellipsis)) ranges order (begun (text_on on)) calls
+    answers k on.measure (text_on on) (row_width k on.measure (vec_items on.tables.ellipsis)) ranges order (begun (text_on on)) calls
 
 -- Why there is a record of a run or none: of lawful tables there is one, unless there is no memory for it; else the answer is the tables' first fault
 abbrev pub RunBy : {W : Type 0} → Text → List Glyph → Result (Vec (Event W) Global) RunFault → Type 0

@@ -15,6 +15,8 @@ use std::alloc::Global;
 use visual_order::order_laws;
 use walk::line::VlRange;
 
+// The two lists go side by side, as in the entry's own lines.
+
 /// Performs a call and records its answer.
 pub(crate) fn perform<M: Measure>(
     heap: Global,

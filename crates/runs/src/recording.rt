@@ -1,23 +1,20 @@
 // How an answer is recorded.
 ghost use Rattle.runs.specs.Events.{ByCall, ReadOff, answer_of};
 ghost use Rattle.runs.specs.declared.fault.RunFault.TheVariants.{Memory};
-ghost use Rattle.std.specs.Prelude.{◌≡◌, take, MatchResult};
+ghost use Rattle.std.specs.Prelude.{◌≡◌, take, IfOk, MatchResult};
 
 use crate::event::{Event, LaidLine};
 use crate::fault::RunFault;
 use entry::fault::EntryFault;
 use layout::line::VisualLine;
-use std::alloc::Global;
+use std::alloc::{AllocError, Global};
 use walk::line::VlRange;
 
-// The first n of some items, or all where there are fewer.
-fn first_places<T: Copy>(heap: Global, items: &[T], n: usize) -> Result<Vec<T>, RunFault>
-    ensures { MatchResult result (λ v. v.items ≡ take n items.now) (λ e. e ≡ Memory) }
+// The first n of some items, or all where there are fewer: one line, for which a crate to share it with others would be no plainer.
+fn first_places<T: Copy>(heap: Global, items: &[T], n: usize) -> Result<Vec<T>, AllocError>
+    ensures { IfOk result (λ v. v.items ≡ take n items.now) }
 {
-    if n < items.len() {
-        return Ok(Vec::from_slice(heap, &items[..n])?);
-    }
-    Ok(Vec::from_slice(heap, items)?)
+    Vec::from_slice(heap, &items[..n.min(items.len())])
 }
 
 /// Records what a call that lays lines answered: of a line, what it wrote into the two lists, too.

@@ -15,20 +15,8 @@ use entry::entry::Entry;
 use measure::exact::ExactMeasure;
 use measure::measure::Measure;
 use paragraph::paragraph::Paragraph;
-use paragraph::place::Place;
 use std::alloc::Global;
 use walk::line::VlRange;
-
-// What the list of ranges holds before a line is laid.
-fn blank_range() -> VlRange {
-    let place = Place { word: 0, glyph: 0 };
-    VlRange {
-        span: None,
-        start: place,
-        end: place,
-        level: 0,
-    }
-}
 
 /// Opens an entry and performs a script of calls on it, and records what each one answers. The calls are lent a list of `range_places` for ranges and
 /// one of `order_places` for their order.
@@ -41,22 +29,14 @@ pub fn run<M: Measure + Drop>(
     range_places: usize,
     order_places: usize,
 ) -> Result<Vec<Event<M::Width>>, RunFault>
-    ensures tables { RunBy (text_on on) on.ellipsis.items result }
+    ensures tables { RunBy (text_on on) on.tables.ellipsis.items result }
     ensures exact { IfOk result (λ log. map answer_of log.items ≡ opened_answers M.Measure on range_places order_places script.now) }
-    ensures lawful { IfOk result (λ log. LawfulRun M.Measure on.measure (text_on on) on.ellipsis.items range_places order_places script.now (map answer_of log.items)) }
+    ensures lawful { IfOk result (λ log. LawfulRun M.Measure on.measure (text_on on) on.tables.ellipsis.items range_places order_places script.now (map answer_of log.items)) }
 {
     runs_are_lawful(&on.measure);
     let mut paragraph = Paragraph::empty(heap);
-    let mut opened = Entry::open(
-        &mut paragraph,
-        on.glyphs,
-        on.words,
-        on.spans,
-        on.ellipsis,
-        on.direction,
-        on.measure,
-    )?;
-    let mut ranges = vec![in heap; blank_range(); range_places]?;
+    let mut opened = Entry::open(&mut paragraph, on.tables, on.measure)?;
+    let mut ranges = vec![in heap; VlRange::default(); range_places]?;
     let mut order = vec![in heap; 0; order_places]?;
     perform_all(
         heap,
@@ -68,7 +48,7 @@ pub fn run<M: Measure + Drop>(
     )
 }
 
-/// The same over an exact measure, where the record obeys the law of widths besides.
+/// The same over an exact measure, where the record obeys the law of widths besides: a call of its own, since that law can only be said under this bound.
 pub fn run_exact<M: ExactMeasure + Drop>(
     heap: Global,
     on: Opening<M>,
@@ -76,10 +56,10 @@ pub fn run_exact<M: ExactMeasure + Drop>(
     range_places: usize,
     order_places: usize,
 ) -> Result<Vec<Event<M::Width>>, RunFault>
-    ensures tables { RunBy (text_on on) on.ellipsis.items result }
+    ensures tables { RunBy (text_on on) on.tables.ellipsis.items result }
     ensures exact { IfOk result (λ log. map answer_of log.items ≡ opened_answers M.Measure on range_places order_places script.now) }
-    ensures lawful { IfOk result (λ log. LawfulRun M.Measure on.measure (text_on on) on.ellipsis.items range_places order_places script.now (map answer_of log.items)) }
-    ensures measured { IfOk result (λ log. MeasuredRun M.ExactMeasure.number (M.ExactMeasure.number_of_glyph on.measure) (text_on on) on.ellipsis.items script.now (map answer_of log.items)) }
+    ensures lawful { IfOk result (λ log. LawfulRun M.Measure on.measure (text_on on) on.tables.ellipsis.items range_places order_places script.now (map answer_of log.items)) }
+    ensures measured { IfOk result (λ log. MeasuredRun M.ExactMeasure.number (M.ExactMeasure.number_of_glyph on.measure) (text_on on) on.tables.ellipsis.items script.now (map answer_of log.items)) }
 {
     runs_are_exact(&on.measure);
     run(heap, on, script, range_places, order_places)

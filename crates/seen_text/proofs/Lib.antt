@@ -1,11 +1,9 @@
 mod Asked
 mod ClassWords
-mod Cuts
 mod LevelWords
+mod Feeds
 mod Lines
-mod Refusals
+mod Parts
+mod Readable
 mod Relevel
 mod Spelt
-mod ThreeLined
-mod TwoLined
-mod Words

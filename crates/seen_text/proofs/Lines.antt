@@ -1,28 +1,11 @@
 -- Numbers in a line, one after another
-use Rattle.std.proofs.Common.{◌≡◌, ℕ, zero, suc, ◌+◌, ◌<◌, ◌≤◌, eqb, List, [], ◌∷◌, ◌++◌, length, get_or, take, Ok, IsUtf8, decimal, Result, sym, ap, ◌∙◌, subst, ⊎_elim, append-nil, arith, length-drop}
+use Rattle.std.proofs.Common.{◌≡◌, ℕ, zero, suc, ◌<◌, ◌≤◌, List, length, get_or, Ok, IsUtf8, decimal, Result, sym, ap, ◌∙◌, subst, ⊎_elim, arith, length-drop}
 use Rattle.std.specs.Str.Parse.{AllDigits, ParsesUnsigned, digits_value}
 use Rattle.std.proofs.lemmas.Fmt.{IsAscii-decimal, decimal_digit, decimal-digits_value, first_decimal, parse-decimal}
 use Rattle.std.proofs.lemmas.Str.Parse.{IsNumeralModel, without_leading_plus_plus, numerals_by_value, parse_plain, tells_digits}
 use Rattle.std.proofs.lemmas.Result.{OkIff-at_ok}
 use Rattle.std.proofs.lemmas.Str.{IsUtf8-from_ascii}
-use Rattle.std.proofs.lemmas.List.{flat_map_more, take_more, length-take-le}
-use Rattle.std.specs.List.{flat_map}
-use Rattle.std.proofs.lemmas.Bool.{cases_lt, cond-false, ne_eqb}
-use Rattle.seen_text.specs.Numbers.{gap, spaced, spelled}
-
-spelled_push : (ns : List ℕ) (n : ℕ) → spelled (ns ++ (n ∷ [])) ≡ spelled ns ++ (gap (length ns) ++ decimal n)
-spelled_push [] n = append-nil (decimal n)
-spelled_push (m ∷ ns) n =
-    let k = suc (length ns) in
-    let one : gap k ≡ 32 ∷ [] = cond-false (eqb k 0) [] (32 ∷ []) (ne_eqb k 0 (omega arith)) in
-    sym (flat_map_more spaced (decimal m) ns n) ∙ ap (λ (t : List ℕ). (decimal m ++ flat_map spaced ns) ++ (t ++ decimal n)) (sym one)
-
-pub spelled_more : (ns : List ℕ) (i : ℕ) → i < length ns → spelled (take (i + 1) ns) ≡ spelled (take i ns) ++ (gap i ++ decimal (get_or ns i 0))
-spelled_more ns i l =
-    let len : length (take i ns) ≡ i = length-take-le i ns (omega arith) in
-    ap spelled (take_more ns i 0 l)
-    ∙ spelled_push (take i ns) (get_or ns i 0)
-    ∙ ap (λ (k : ℕ). spelled (take i ns) ++ (gap k ++ decimal (get_or ns i 0))) len
+use Rattle.std.proofs.lemmas.Bool.{cases_lt}
 
 -- what a word that is read as a number is
 pub own : IsNumeralModel (AllDigits 10) (digits_value 10)

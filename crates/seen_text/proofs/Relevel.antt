@@ -1,61 +1,51 @@
 -- The characters of a text, by their bytes, and their levels after the resets
-use Rattle.std.proofs.Common.{◌≡◌, ℕ, zero, suc, ◌+◌, ◌<◌, ◌≤◌, Bool, true, false, cond, List, [], ◌∷◌, ◌++◌, map, length, get_or, take, drop, replicate, Some, None, Ok, Err, string_bytes, Result, String, sym, refl, ap, ◌∙◌, subst, ap₂, append_assoc, arith, length-append}
+use Rattle.std.proofs.Common.{◌≡◌, ℕ, zero, suc, ◌+◌, ◌<◌, ◌≤◌, Bool, true, false, cond, List, [], ◌∷◌, ◌++◌, map, length, get_or, take, drop, replicate, Result, sym, refl, ap, ◌∙◌, subst, ap₂, append_assoc, arith, length-append}
 use lib.ListN.{length-replicate}
 use Rattle.std.specs.Char.{len_utf8}
-use Rattle.std.specs.declared.alloc.Global.{Global}
-use Rattle.std.specs.List.{flat_map, AllByRecursion as All}
-use Rattle.std.specs.Str.{chars as decodes}
-use Rattle.std.proofs.ByRecursion.{All-weaker}
-use Rattle.std.proofs.lemmas.List.{drop_at, get_or-append-add, get_or_append_left, get_or-replicate, flat_map_more, length-map, map_more, take_at, take_more}
+use Rattle.std.specs.List.{All, AllByRecursion}
+use Rattle.std.proofs.ByRecursion.{All-get_or, All-weaker}
+use Rattle.std.proofs.lemmas.List.{drop_at, get_or-append-add, get_or_append_left, get_or-replicate, length-map, take_at}
 use Rattle.std.proofs.lemmas.Str.{len_utf8_bounds}
 use Rattle.levels.specs.Classes.{Role, class_of, code_of, other, removed, role_of, separator, space}
 use Rattle.levels.specs.Refusals.{verdict}
 use Rattle.levels.specs.RuleL1.{adjusted, releveled, resets, roles_of}
-use Rattle.levels.specs.declared.fault.ClassFault.{ClassFault}
+use Rattle.levels.specs.declared.fault.ClassCause.{ClassCause}
+use Rattle.levels.specs.declared.fault.ClassTable.{ClassTable}
+use Rattle.refusals.specs.declared.fault.Fault.{Fault}
 use Rattle.visual_order.specs.declared.character.Character.{Character}
-use Rattle.seen_text.specs.Answer.{Prints, class_refusal, reset_printed, seen_lines}
 use Rattle.seen_text.specs.Classes.{Resets}
-use Rattle.seen_text.specs.Format.{Counted}
-use Rattle.seen_text.specs.Resets.{ResetsByRule, ResetsLevels, byte_lengths, byte_levels, first_levels, reset_levels, reset_verdict}
+use Rattle.seen_text.specs.Resets.{ResetsByRule, byte_lengths, byte_levels, first_levels, reset_levels, reset_verdict}
 use Rattle.seen_text.specs.Seen.{characters_of}
-use Rattle.seen_text.specs.declared.format_fault.InputFault.{InputFault}
-use Rattle.seen_text.specs.declared.format_fault.InputFault.TheVariants.{Format, Memory}
-use Rattle.seen_text.specs.declared.reset_fault.ResetFault.{ResetFault}
-use Rattle.seen_text.specs.declared.reset_fault.ResetFault.TheVariants.{Refused}
-
--- a loop that pushes an element for each of a list, and one that pushes some
-pub map_step : {X : Type 0} (f : X → ℕ) (xs : List X) (i : ℕ) (d : X) (old new : List ℕ) (y : ℕ) → i < length xs → old ≡ map f (take i xs) → new ≡ old ++ (y ∷ []) → y ≡ f (get_or xs i d) → new ≡ map f (take (i + 1) xs)
-map_step f xs i d old new y l old_is NewIs y_is = NewIs ∙ ap₂ (λ (t : List ℕ) (n : ℕ). t ++ (n ∷ [])) old_is y_is ∙ sym (map_more f xs i d l)
-
-pub joined_step : {X : Type 0} (f : X → List ℕ) (xs : List X) (i : ℕ) (d : X) (old new ys : List ℕ) → i < length xs → old ≡ flat_map f (take i xs) → new ≡ old ++ ys → ys ≡ f (get_or xs i d) → new ≡ flat_map f (take (i + 1) xs)
-joined_step f xs i d old new ys l old_is NewIs ys_is = NewIs ∙ ap₂ ◌++◌ old_is ys_is ∙ flat_map_more f [] (take i xs) (get_or xs i d) ∙ ap (flat_map f) (sym (take_more xs i d l))
 
 -- a character has up to four bytes
-pub all_short : (start : ℕ) (chars levels : List ℕ) → All (λ c. c.len ≤ 4) (characters_of start chars levels)
-all_short start [] levels = tt
-all_short start (c ∷ chars) [] = tt
-all_short start (c ∷ chars) (level ∷ levels) = ((len_utf8_bounds c).1, all_short (start + len_utf8 c) chars levels)
+short : (start : ℕ) (chars levels : List ℕ) → AllByRecursion (λ c. c.len ≤ 4) (characters_of start chars levels)
+short start [] levels = tt
+short start (c ∷ chars) [] = tt
+short start (c ∷ chars) (level ∷ levels) = ((len_utf8_bounds c).1, short (start + len_utf8 c) chars levels)
+
+pub all_short : (chars levels : List ℕ) (characters : List Character) → characters ≡ characters_of 0 chars levels → All (λ c. c.len ≤ 4) characters
+all_short chars levels characters is = λ k d l. All-get_or (λ c. c.len ≤ 4) characters k d l (subst (AllByRecursion (λ c. c.len ≤ 4)) (sym is) (short 0 chars levels))
 
 -- each character has a first byte
-all_inside : (start : ℕ) (chars levels : List ℕ) → All (λ c. c.start < start + length (byte_levels (characters_of start chars levels))) (characters_of start chars levels)
-all_inside start [] levels = tt
-all_inside start (c ∷ chars) [] = tt
-all_inside start (c ∷ chars) (level ∷ levels) =
+inside : (start : ℕ) (chars levels : List ℕ) → AllByRecursion (λ c. c.start < start + length (byte_levels (characters_of start chars levels))) (characters_of start chars levels)
+inside start [] levels = tt
+inside start (c ∷ chars) [] = tt
+inside start (c ∷ chars) (level ∷ levels) =
     let more = characters_of (start + len_utf8 c) chars levels in
     let long = length-append (replicate (len_utf8 c) level) (byte_levels more) in
     let own = length-replicate (len_utf8 c) level in (
       omega (arith, long, own, len_utf8_bounds c),
-      All-weaker (λ d. d.start < (start + len_utf8 c) + length (byte_levels more)) (λ d. d.start < start + length (byte_levels (characters_of start (c ∷ chars) (level ∷ levels)))) (λ d l. omega (arith, long, own, l)) more (all_inside (start + len_utf8 c) chars levels),
+      All-weaker (λ d. d.start < (start + len_utf8 c) + length (byte_levels more)) (λ d. d.start < start + length (byte_levels (characters_of start (c ∷ chars) (level ∷ levels)))) (λ d l. omega (arith, long, own, l)) more (inside (start + len_utf8 c) chars levels),
     )
 
-pub first_bytes : (chars levels bytes : List ℕ) (characters : List Character) → characters ≡ characters_of 0 chars levels → length bytes ≡ length (byte_levels (characters_of 0 chars levels)) → All (λ c. c.start < length bytes) characters
-first_bytes chars levels bytes characters is long =
-    subst (All (λ c. c.start < length bytes)) (sym is)
-    (All-weaker (λ c. c.start < 0 + length (byte_levels (characters_of 0 chars levels))) (λ c. c.start < length bytes) (λ c l. omega (arith, long, l)) (characters_of 0 chars levels) (all_inside 0 chars levels))
+pub all_inside : (chars levels bytes : List ℕ) (characters : List Character) → characters ≡ characters_of 0 chars levels → length bytes ≡ length (byte_levels (characters_of 0 chars levels)) → All (λ c. c.start < length bytes) characters
+all_inside chars levels bytes characters is long = λ k d l.
+    let below : AllByRecursion (λ c. c.start < 0 + length (byte_levels (characters_of 0 chars levels))) characters = subst (AllByRecursion (λ c. c.start < 0 + length (byte_levels (characters_of 0 chars levels)))) (sym is) (inside 0 chars levels) in
+    omega (arith, long, All-get_or (λ c. c.start < 0 + length (byte_levels (characters_of 0 chars levels))) characters k d l below)
 
 -- the tables that the rule is given
 module _ (asked : Resets) (characters : List Character) (codes lengths bytes : List ℕ) (codes_are : codes ≡ map code_of asked.classes) (lengths_are : lengths ≡ byte_lengths characters) (bytes_are : bytes ≡ byte_levels characters) where
-  pub verdict_is : (r : Result (Unit {0}) ClassFault) → r ≡ verdict asked.paragraph codes lengths bytes → reset_verdict asked characters ≡ r
+  pub verdict_is : (r : Result (Unit {0}) (Fault ClassCause ClassTable)) → r ≡ verdict asked.paragraph codes lengths bytes → reset_verdict asked characters ≡ r
   verdict_is r e =
       sym (e ∙ ap (λ (t : List ℕ). verdict asked.paragraph t lengths bytes) codes_are ∙ ap₂ (λ (t u : List ℕ). verdict asked.paragraph (map code_of asked.classes) t u) lengths_are bytes_are)
 
@@ -63,26 +53,6 @@ module _ (asked : Resets) (characters : List Character) (codes lengths bytes : L
   reset_is same after list levels after_is list_is same_is levels_are =
       let adjusted_is : list ≡ adjusted asked.paragraph (map code_of asked.classes) (byte_lengths characters) (byte_levels characters) = list_is ∙ after_is ∙ ap (λ (t : List ℕ). adjusted asked.paragraph t lengths bytes) codes_are ∙ ap₂ (λ (t u : List ℕ). adjusted asked.paragraph (map code_of asked.classes) t u) lengths_are bytes_are in
       levels_are ∙ ap₂ first_levels adjusted_is same_is
-
-characters_long : (start : ℕ) (chars levels : List ℕ) → length chars ≡ length levels → length (characters_of start chars levels) ≡ length chars
-characters_long start [] levels e = refl
-characters_long start (c ∷ chars) [] e = absurd (omega arith)
-characters_long start (c ∷ chars) (level ∷ levels) e = omega (arith, characters_long (start + len_utf8 c) chars levels (omega arith))
-
--- what is printed after the resets
-module _ (text levels : List ℕ) (asked : Resets) (counted : Counted text levels (Some asked)) where
-  pub granted_print : (list : List ℕ) (r : Result (String Global) InputFault) → reset_verdict asked (characters_of 0 (decodes text) levels) ≡ Ok tt → list ≡ reset_levels asked (characters_of 0 (decodes text) levels) → Prints text list None r → Prints text levels (Some asked) r
-  granted_print list (Ok answer) granted is prints =
-      (counted, prints.1 ∙ ap (seen_lines text) is ∙ ap (λ (v : Result (Unit {0}) ClassFault). reset_printed v text (reset_levels asked (characters_of 0 (decodes text) levels))) (sym granted))
-  granted_print list (Err (Format fault)) granted is prints =
-      let characters = characters_of 0 (decodes text) levels in
-      absurd (prints (record { each = omega (arith, ap length is, length-map characters (λ c. get_or (adjusted asked.paragraph (map code_of asked.classes) (byte_lengths characters) (byte_levels characters)) c.start 0), characters_long 0 (decodes text) levels counted.each); classed = tt }))
-  granted_print list (Err Memory) granted is prints = tt
-
-  pub refused_print : (given : ResetFault) (fault : ClassFault) (answer : String Global) → given ≡ Refused fault → ResetsLevels asked (characters_of 0 (decodes text) levels) (Err given) → string_bytes answer ≡ class_refusal fault → Prints text levels (Some asked) (Ok answer)
-  refused_print given fault answer given_is refused is =
-      let verdict_is : reset_verdict asked (characters_of 0 (decodes text) levels) ≡ Err fault = subst (λ (f : ResetFault). ResetsLevels asked (characters_of 0 (decodes text) levels) (Err f)) given_is refused in
-      (counted, is ∙ ap (λ (v : Result (Unit {0}) ClassFault). reset_printed v text (reset_levels asked (characters_of 0 (decodes text) levels))) (sym verdict_is))
 
 -- WHAT THE LEVELS AFTER THE RULE ARE, character by character
 

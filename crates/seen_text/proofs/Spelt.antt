@@ -1,63 +1,42 @@
 -- The characters of a text and their bytes
-use Rattle.std.proofs.Common.{◌≡◌, ℕ, zero, suc, ◌+◌, ◌-◌, ◌<◌, ◌≤◌, true, List, [], ◌∷◌, ◌++◌, map, length, get_or, take, drop, IsUtf8, sym, refl, ap, ◌∙◌, subst, ap₂, append_assoc, append-nil, arith, length-append, length-drop}
+use Rattle.std.proofs.Common.{◌≡◌, ℕ, zero, suc, ◌+◌, ◌-◌, ◌<◌, ◌≤◌, true, List, [], ◌∷◌, ◌++◌, map, length, get_or, take, drop, IsUtf8, sym, refl, ap, ◌∙◌, subst, ap₂, arith, length-append, length-drop}
 use lib.Utf8.{encode, encodes, scalar, scalars}
 use Rattle.std.specs.Char.{len_utf8}
 use Rattle.std.specs.Str.{IsCharBoundary, chars as decodes}
-use Rattle.std.proofs.lemmas.List.{drop_more, length_push, nil_from_length, take_at, take_more, flat_map_more, drop_all}
+use Rattle.std.proofs.lemmas.List.{nil_from_length, take_at, take_more, flat_map_more}
 use Rattle.std.proofs.lemmas.Str.{length-encode, IsCharBoundary-from_drop, IsCharBoundary-past_char, scalars-chars, encodes-chars, chars-nil, drop_past_char, IsUtf8-past_char, chars_past_char}
 use Rattle.std.proofs.lemmas.Bool.{and_parts}
+use Rattle.std.specs.Str.Iter.{char_indices_offset, char_indices_rest, char_indices_steps}
+use Rattle.std.specs.declared.str.CharIndices.{CharIndices}
+use Rattle.std.proofs.lemmas.Iterator.{YieldsList}
+use Rattle.std.proofs.lemmas.Iterator.Splits.{YieldsList-from_shown_while}
+use Rattle.std.specs.List.{zip}
 use Rattle.visual_order.specs.declared.character.Character.{Character}
 use Rattle.seen_text.specs.Seen.{characters_of, level_of, seen_bytes}
 
--- Where a loop over the characters of a text stands: `rest` is what it has yet to read, from the byte `start` on, and what it has made
--- goes on to all the characters
-pub record Sofar (text levels : List ℕ) (made : List Character) (start : ℕ) (rest : List ℕ) : Type 0 where
-  pub within : start + length rest ≡ length text
-  pub spelt : IsUtf8 rest
-  pub count : length made + length (decodes rest) ≡ length (decodes text)
-  pub goes_on : made ++ characters_of start (decodes rest) (drop (length made) levels) ≡ characters_of 0 (decodes text) levels
+-- characters, each with the byte at which it starts
+abbrev pub placed : ℕ → List ℕ → List (ℕ × ℕ)
+placed start [] = []
+placed start (c ∷ chars) = (start, c) ∷ placed (start + len_utf8 c) chars
 
--- one character more
-module _ {text levels : List ℕ} {made : List Character} {start : ℕ} {rest : List ℕ} (next : List ℕ) (c : ℕ) (old : Sofar text levels made start rest) (long : length (decodes text) ≡ length levels) (is : rest ≡ encode c ++ next) where
-  one_read : decodes rest ≡ c ∷ decodes next
-  one_read = chars_past_char rest next c old.spelt is
+pub made_of : (start : ℕ) (chars levels : List ℕ) → map (λ p. record { start = p.0.0; len = len_utf8 p.0.1; level = p.1 }) (zip (placed start chars) levels) ≡ characters_of start chars levels
+made_of start [] levels = refl
+made_of start (c ∷ chars) [] = refl
+made_of start (c ∷ chars) (level ∷ levels) = ap (λ (t : List Character). record { start = start; len = len_utf8 c; level = level } ∷ t) (made_of (start + len_utf8 c) chars levels)
 
-  pub has_level : length made < length levels
-  has_level = omega (arith, old.count, ap length one_read)
-
-  pub room : start + len_utf8 c ≤ length text
-  room = omega (arith, old.within, ap length is, length-append (encode c) next, length-encode c)
-
-  pub one_more : (after : List Character) (len at : ℕ) → len ≡ len_utf8 c → at ≡ length made → after ≡ made ++ (record { start = start; len = len; level = get_or levels at 0 } ∷ []) → Sofar text levels after (start + len) next
-  one_more after len at len_is at_is after_is =
-      let read : ℕ → ℕ → Character = λ n k. record { start = start; len = n; level = get_or levels k 0 } in
-      let rest_of : ℕ → List Character = λ n. characters_of (start + len_utf8 c) (decodes next) (drop n levels) in
-      let is_next : after ≡ made ++ (read (len_utf8 c) (length made) ∷ []) = after_is ∙ ap₂ (λ (n k : ℕ). made ++ (read n k ∷ [])) len_is at_is in
-      let longer : length after ≡ length made + 1 = ap length is_next ∙ length_push made (read (len_utf8 c) (length made)) in
-      let going : made ++ (read (len_utf8 c) (length made) ∷ rest_of (length made + 1)) ≡ characters_of 0 (decodes text) levels = ap (λ (t : List ℕ). made ++ characters_of start (c ∷ decodes next) t) (sym (drop_more levels (length made) 0 has_level)) ∙ ap (λ (t : List ℕ). made ++ characters_of start t (drop (length made) levels)) (sym one_read) ∙ old.goes_on in
-      record {
-        within = omega (arith, old.within, ap length is, length-append (encode c) next, length-encode c);
-        spelt = IsUtf8-past_char rest next c old.spelt is;
-        count = omega (arith, old.count, ap length one_read);
-        goes_on = ap (λ (n : ℕ). after ++ characters_of (start + n) (decodes next) (drop (length after) levels)) len_is ∙ ap₂ (λ (t : List Character) (n : ℕ). t ++ rest_of n) is_next longer ∙ append_assoc made (read (len_utf8 c) (length made) ∷ []) (rest_of (length made + 1)) ∙ going;
-      }
-
--- nothing is read yet
-pub begun : (text levels : List ℕ) (made : List Character) (rest : List ℕ) → IsUtf8 text → made ≡ [] → rest ≡ text → Sofar text levels made 0 rest
-begun text levels made rest u made_is rest_is =
-    record {
-      within = omega (arith, ap length rest_is);
-      spelt = subst IsUtf8 (sym rest_is) u;
-      count = omega (arith, ap length made_is, ap (λ (t : List ℕ). length (decodes t)) rest_is);
-      goes_on = ap (λ (t : List Character). t ++ characters_of 0 (decodes rest) (drop (length t) levels)) made_is ∙ ap (λ (t : List ℕ). characters_of 0 (decodes t) levels) rest_is;
-    }
-
--- all is read
-pub all_read : {text levels : List ℕ} {made : List Character} {start : ℕ} {rest : List ℕ} → Sofar text levels made start rest → length rest ≡ 0 → made ≡ characters_of 0 (decodes text) levels
-all_read {text} {levels} {made} {start} {rest} old none =
-    sym (append-nil made)
-    ∙ ap (λ (t : List ℕ). made ++ characters_of start t (drop (length made) levels)) (sym (ap decodes (nil_from_length rest none) ∙ chars-nil))
-    ∙ old.goes_on
+-- what the characters of a text and the bytes at which they start are
+pub places_given : (s : CharIndices) (text : List ℕ) → IsUtf8 text → char_indices_rest s ≡ text → char_indices_offset s ≡ 0 → YieldsList char_indices_steps (λ p. p) s (placed 0 (decodes text))
+places_given s text u rest offset =
+    let shown : CharIndices → List (ℕ × ℕ) = λ t. placed (char_indices_offset t) (decodes (char_indices_rest t)) in
+    subst (YieldsList char_indices_steps (λ p. p) s) (ap₂ (λ (n : ℕ) (t : List ℕ). placed n (decodes t)) offset rest)
+    (YieldsList-from_shown_while char_indices_steps (λ p. p) shown (λ t. IsUtf8 (char_indices_rest t))
+    (λ t v h k. ap (λ (bs : List ℕ). length (placed (char_indices_offset t) bs)) (ap decodes (nil_from_length (char_indices_rest t) k.0) ∙ chars-nil))
+    (λ t p v h k. (
+      IsUtf8-past_char (char_indices_rest t) (char_indices_rest v) p.1 h k.1,
+      ap (placed (char_indices_offset t)) (chars_past_char (char_indices_rest t) (char_indices_rest v) p.1 h k.1)
+          ∙ ap₂ (λ (at next : ℕ). (at, p.1) ∷ placed next (decodes (char_indices_rest v))) (sym k.0) (ap (λ (n : ℕ). char_indices_offset t + n) (sym (length-encode p.1)) ∙ sym k.2),
+    ))
+    s (subst IsUtf8 (sym rest) u))
 
 -- what the bytes of a text are at one of its characters
 pub record Stands (text : List ℕ) (ch : Character) (c : ℕ) : Type 0 where
@@ -109,20 +88,3 @@ levels_are start [] [] e = refl
 levels_are start [] (level ∷ levels) e = absurd (omega arith)
 levels_are start (c ∷ chars) [] e = absurd (omega arith)
 levels_are start (c ∷ chars) (level ∷ levels) e = ap (λ (t : List ℕ). level ∷ t) (levels_are (start + len_utf8 c) chars levels (omega arith))
-
--- what the caller of `reorder` holds where its list is just as long as the elements
-module _ (order list last rest : List ℕ) (n k : ℕ) (is : last ≡ order ++ drop k list) (list_long : length list ≤ k) (last_long : length last ≡ n) where
-  last_is : last ≡ order
-  last_is = is ∙ ap (λ (t : List ℕ). order ++ t) (drop_all k list list_long) ∙ append-nil order
-
-  pub filled : take n (last ++ rest) ≡ order
-  filled = take_at last rest n last_long ∙ last_is
-
-  pub filled_below : (m : ℕ) → ((p : ℕ) → p < n → get_or last p 0 < m) → (p : ℕ) → p < length (take n (last ++ rest)) → get_or (take n (last ++ rest)) p 0 < m
-  filled_below m below p l =
-      let same : take n (last ++ rest) ≡ last = take_at last rest n last_long in
-      subst (λ (t : List ℕ). get_or t p 0 < m) (sym same) (below p (omega (arith, ap length same)))
-
-pub below_same : (xs ys : List ℕ) (n m : ℕ) → xs ≡ ys → n ≡ m → ((p : ℕ) → p < length ys → get_or ys p 0 < n) → (p : ℕ) → p < length xs → get_or xs p 0 < m
-below_same xs ys n m same bound below p l =
-    subst (λ (k : ℕ). get_or xs p 0 < k) bound (subst (λ (t : List ℕ). get_or t p 0 < n) (sym same) (below p (omega (arith, ap length same))))

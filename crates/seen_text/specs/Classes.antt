@@ -1,11 +1,12 @@
 -- The third line of an input, which asks for the level resets of rule L1 of the bidirectional algorithm
-use Rattle.std.specs.Prelude.{◌≡◌, ℕ, ◌≤◌, List, ◌∷◌, ◌++◌, Some, None, Ok, Err, vec_items, decimal, Option, Result, ◌≢◌}
+use Rattle.std.specs.Prelude.{◌≡◌, ℕ, ◌≤◌, List, ◌∷◌, ◌++◌, Some, None, vec_items, decimal, Option, Result, ◌≢◌}
 use Rattle.std.specs.List.{flat_map}
 use Rattle.levels.specs.Classes.{name_of}
 use Rattle.levels.specs.declared.classes.BidiClass.{BidiClass}
 use Rattle.seen_text.specs.declared.class_line.ClassLine.{ClassLine}
-use Rattle.seen_text.specs.declared.format_fault.InputFault.{InputFault}
-use Rattle.seen_text.specs.declared.format_fault.InputFault.TheVariants.{Format, Memory}
+use Rattle.program.specs.declared.fault.InputFault.{InputFault}
+use Rattle.seen_text.specs.declared.format_fault.FormatFault.{FormatFault}
+use Rattle.program.specs.Fault.{MatchInput}
 
 -- what the resets go by: the level of the paragraph, and the bidi class of each character
 pub record Resets : Type 0 where
@@ -33,7 +34,5 @@ Named word None = (class : BidiClass) → word ≢ name_of class
 Named word (Some class) = word ≡ name_of class
 
 -- What the reader of the line answers: what it says, or a fault exactly where it says nothing. Only memory may always be wanting
-abbrev pub ReadsClasses : List ℕ → Result ClassLine InputFault → Type 0
-ReadsClasses line (Ok read) = Lawful (resets_of read) × (line ≡ resets_line (resets_of read))
-ReadsClasses line (Err (Format fault)) = (resets : Resets) → Lawful resets → line ≢ resets_line resets
-ReadsClasses line (Err Memory) = Unit {0}
+abbrev pub ReadsClasses : List ℕ → Result ClassLine (InputFault FormatFault) → Type 0
+ReadsClasses line read = MatchInput read (λ r. Lawful (resets_of r) × (line ≡ resets_line (resets_of r))) ((resets : Resets) → Lawful resets → line ≢ resets_line resets)

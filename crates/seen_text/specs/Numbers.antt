@@ -1,5 +1,5 @@
 -- Numbers in a line: decimals with single spaces between them
-use Rattle.std.specs.Prelude.{ℕ, cond, List, [], ◌∷◌, ◌++◌, decimal, ◌==◌}
+use Rattle.std.specs.Prelude.{ℕ, List, [], ◌∷◌, ◌++◌, decimal}
 use Rattle.std.specs.List.{flat_map}
 
 -- a space and a number
@@ -10,7 +10,3 @@ spaced n = 32 ∷ decimal n
 abbrev pub spelled : List ℕ → List ℕ
 spelled [] = []
 spelled (n ∷ ns) = decimal n ++ flat_map spaced ns
-
--- what stands before the number at the place i
-abbrev pub gap : ℕ → List ℕ
-gap i = cond (i == 0) [] (32 ∷ [])

@@ -5,12 +5,12 @@ use Rattle.std.specs.List.{flat_map}
 use Rattle.levels.specs.Classes.{code_of}
 use Rattle.levels.specs.Refusals.{verdict}
 use Rattle.levels.specs.RuleL1.{adjusted, reset_at, roles_of}
-use Rattle.levels.specs.declared.fault.ClassFault.{ClassFault}
+use Rattle.levels.specs.declared.fault.ClassCause.{ClassCause}
+use Rattle.levels.specs.declared.fault.ClassTable.{ClassTable}
+use Rattle.refusals.specs.declared.fault.Fault.{Fault}
 use Rattle.visual_order.specs.declared.character.Character.{Character}
 use Rattle.seen_text.specs.Classes.{Resets}
 use Rattle.seen_text.specs.Seen.{characters_of}
-use Rattle.seen_text.specs.declared.reset_fault.ResetFault.{ResetFault}
-use Rattle.seen_text.specs.declared.reset_fault.ResetFault.TheVariants.{Refused, Memory}
 
 -- how many bytes each character has
 abbrev pub byte_lengths : List Character → List ℕ
@@ -28,18 +28,17 @@ abbrev pub first_levels : List ℕ → List Character → List ℕ
 first_levels bytes characters = map (λ c. slice_index bytes c.start) characters
 
 -- whether the rule refuses the line
-abbrev pub reset_verdict : Resets → List Character → Result (Unit {0}) ClassFault
+abbrev pub reset_verdict : Resets → List Character → Result (Unit {0}) (Fault ClassCause ClassTable)
 reset_verdict resets characters = verdict resets.paragraph (map code_of resets.classes) (byte_lengths characters) (byte_levels characters)
 
 -- the levels after the rule
 abbrev pub reset_levels : Resets → List Character → List ℕ
 reset_levels resets characters = first_levels (adjusted resets.paragraph (map code_of resets.classes) (byte_lengths characters) (byte_levels characters)) characters
 
--- What the resets answer: the levels after the rule, or its refusal. Only memory may always be wanting
-abbrev pub ResetsLevels : Resets → List Character → Result (Vec ℕ Global) ResetFault → Type 0
+-- what the resets answer: the levels after the rule, or its refusal
+abbrev pub ResetsLevels : Resets → List Character → Result (Vec ℕ Global) (Fault ClassCause ClassTable) → Type 0
 ResetsLevels resets characters (Ok levels) = (reset_verdict resets characters ≡ Ok tt) × (vec_items levels ≡ reset_levels resets characters)
-ResetsLevels resets characters (Err (Refused fault)) = reset_verdict resets characters ≡ Err fault
-ResetsLevels resets characters (Err Memory) = Unit {0}
+ResetsLevels resets characters (Err fault) = reset_verdict resets characters ≡ Err fault
 
 -- What the levels after the rule are, character by character: one that rule L1 resets has the paragraph's level, and each other its own
 abbrev pub ResetsByRule : Type 0

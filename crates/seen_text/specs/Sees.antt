@@ -2,6 +2,9 @@
 use Rattle.std.specs.Prelude.{◌≡◌, ℕ, ◌<◌, List, length, Ok, Err, vec_items, string_bytes, Result, Vec, ◌≢◌, slice_index}
 use Rattle.std.specs.declared.alloc.Global.{Global}
 use Rattle.std.specs.Str.{chars}
+use Rattle.refusals.specs.declared.fault.Fault.{Fault}
+use Rattle.visual_order.specs.declared.fault.OrderCause.{OrderCause}
+use Rattle.visual_order.specs.declared.fault.OrderTable.{OrderTable}
 use Rattle.visual_order.specs.Verdict.{verdict}
 use Rattle.visual_order.specs.VisualOrder.{visual}
 use Rattle.seen_text.specs.Seen.{seen_bytes}
@@ -10,15 +13,13 @@ use Rattle.seen_text.specs.declared.see_fault.SeeFault.TheVariants.{CountsDiffer
 use Rattle.seen_text.specs.declared.seen_line.Seen.{Seen}
 
 -- What a line of elements with these levels is answered, the list being as long as the line: the order of the rule, in which each index is that
--- of an element, or the rule's refusal. Only memory may always be wanting
-abbrev pub Orders : List ℕ → Result (Vec ℕ Global) SeeFault → Type 0
+-- of an element, or the rule's refusal
+abbrev pub Orders : List ℕ → Result (Vec ℕ Global) (Fault OrderCause OrderTable) → Type 0
 Orders levels (Ok order) =
     (verdict (length levels) (length levels) ≡ Ok tt)
     × (vec_items order ≡ visual levels)
     × ((p : ℕ) → p < length (vec_items order) → slice_index (vec_items order) p < length levels)
-Orders levels (Err (CountsDiffer characters given)) = ⊥
-Orders levels (Err (Refused fault)) = verdict (length levels) (length levels) ≡ Err fault
-Orders levels (Err Memory) = Unit {0}
+Orders levels (Err fault) = verdict (length levels) (length levels) ≡ Err fault
 
 -- Of a text's bytes and of levels: where there is a level for each character and the rule refuses nothing, the order is that of the rule and
 -- the text is that of its characters in this order. Else the fault says which it is: counts that differ and what they are,

@@ -6,22 +6,27 @@ ghost use Rattle.std.specs.Str.{chars};
 use std::alloc::{AllocError, Global};
 use visual_order::Character;
 
-// Each character of the text with its level, which stands at the same place of `levels`.
+// How many characters the text has.
+pub(crate) fn count_of(text: &str) -> usize
+    ensures { result ≡ length (chars text.now) }
+{
+    text.chars().count()
+}
+
+// Each character of the text with its level, which stands at the same place of `levels`, as far as both go.
 pub(crate) fn characters(
     heap: Global,
     text: &str,
     levels: &[u8],
 ) -> Result<Vec<Character>, AllocError>
-    requires { length (chars text.now) ≡ length levels.now }
     ensures { IfOk result (λ v. v.items ≡ characters_of 0 (chars text.now) levels.now) }
 {
-    let mut characters = Vec::new(heap);
-    let mut start = 0;
-    for c in text.chars() {
-        let len = c.len_utf8();
-        let level = levels[characters.len()];
-        characters.push(Character { start, len, level })?;
-        start += len;
-    }
-    Ok(characters)
+    text.char_indices()
+        .zip(levels)
+        .map(|((start, c), level)| Character {
+            start,
+            len: c.len_utf8(),
+            level: *level,
+        })
+        .collect(heap)
 }

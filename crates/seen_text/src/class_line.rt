@@ -3,7 +3,7 @@ ghost use Rattle.std.specs.Prelude.{◌≡◌, ℕ, ◌≤◌, decimal, MatchOpt
 ghost use Rattle.seen_text.specs.Classes.{Named, ReadsClasses};
 
 use crate::format_fault::{FormatFault, InputFault};
-use crate::numbers::{part_end, read_level};
+use crate::numbers::read_level;
 use levels::BidiClass;
 use std::alloc::Global;
 
@@ -18,46 +18,36 @@ pub struct ClassLine {
 }
 
 // The level of a paragraph that the word writes: 0 or 1.
+#[tactic(auto, using(crate::proofs::LevelWords::apart))]
 fn read_paragraph(word: &[u8]) -> Option<u8>
     ensures { MatchOption result ((level : ℕ) → level ≤ 1 → word.now ≡ decimal level → ⊥) (λ level. (level ≤ 1) × (word.now ≡ decimal level)) }
 {
-    let Some(level) = read_level(word) else {
-        return None;
-    };
-    if level > HIGHEST_PARAGRAPH {
-        return None;
-    }
-    Some(level)
+    read_level(word).filter(|level| *level <= HIGHEST_PARAGRAPH)
 }
 
 // The class that the word names.
 fn class_named(word: &[u8]) -> Option<BidiClass>
     ensures { Named word.now result }
 {
-    let Ok(name) = std::str::from_utf8(word) else {
-        return None;
-    };
-    BidiClass::from_name(name)
+    BidiClass::from_name(std::str::from_utf8(word).ok()?)
 }
 
 // The paragraph's level and the classes of a line: words with single spaces between them.
 pub(crate) fn read_class_line(heap: Global, line: &[u8]) -> Result<ClassLine, InputFault>
     ensures { ReadsClasses line.now result }
 {
-    let first = part_end(line, b' ', 0);
-    let Some(paragraph) = read_paragraph(&line[0..first]) else {
+    let mut words = line.split(|b| *b == b' ');
+    let first = words.next().unwrap_or(line);
+    let Some(paragraph) = read_paragraph(first) else {
         return Err(InputFault::Format(FormatFault::NoParagraphLevel));
     };
     let mut classes = Vec::new(heap);
-    let mut at = first + 1;
-    while at <= line.len() {
-        let end = part_end(line, b' ', at);
-        let Some(class) = class_named(&line[at..end]) else {
+    for word in words {
+        let Some(class) = class_named(word) else {
             let place = classes.len() + 1;
             return Err(InputFault::Format(FormatFault::NoClass { place }));
         };
         classes.push(class)?;
-        at = end + 1;
     }
     Ok(ClassLine { paragraph, classes })
 }

@@ -1,8 +1,4 @@
 // Why an input is not of the format, and where.
-ghost use Rattle.seen_text.specs.declared.format_fault.InputFault.TheVariants.{Memory};
-ghost use Rattle.std.specs.Prelude.{◌≡◌};
-
-use std::alloc::{AllocError, AllocFailed};
 use std::fmt;
 
 /// What is wrong with an input, and where. Lines and places are counted from 1.
@@ -53,26 +49,4 @@ impl fmt::Display for FormatFault {
 }
 
 /// Why an input gets no answer.
-#[derive(Drop)]
-pub enum InputFault {
-    /// It is not of the format.
-    Format(FormatFault),
-    /// There is no memory.
-    Memory,
-}
-
-impl From<AllocError> for InputFault {
-    ghost from_gives = { λ _ r. r ≡ Memory };
-
-    fn from(_: AllocError) -> InputFault {
-        InputFault::Memory
-    }
-}
-
-impl<T: Drop> From<AllocFailed<T>> for InputFault {
-    ghost from_gives = { λ _ r. r ≡ Memory };
-
-    fn from(_: AllocFailed<T>) -> InputFault {
-        InputFault::Memory
-    }
-}
+pub type InputFault = program::InputFault<FormatFault>;

@@ -7,7 +7,6 @@ ghost use Rattle.seen_text.specs.Inputs.{ReadsInput};
 use crate::class_line::{ClassLine, read_class_line};
 use crate::format_fault::{FormatFault, InputFault};
 use crate::levels_line::read_levels;
-use crate::numbers::part_end;
 use std::alloc::Global;
 
 // The lines of an input, the third of which may be left out.
@@ -18,45 +17,25 @@ pub(crate) struct InputLines<'a> {
     pub classes: Option<&'a [u8]>,
 }
 
-// The two lines that the bytes are. The line feed behind the last may be left out, unless this line is empty.
-fn two_lines(bytes: &[u8]) -> Option<(&[u8], &[u8])>
-    ensures { MatchOption result ((first second : List ℕ) → TwoLines bytes.now first second → ⊥) (λ lines. TwoLines bytes.now lines.0.now lines.1.now) }
-{
-    let first = part_end(bytes, b'\n', 0);
-    if first + 1 >= bytes.len() {
-        return None;
-    }
-    let second = part_end(bytes, b'\n', first + 1);
-    if second + 1 < bytes.len() {
-        return None;
-    }
-    Some((&bytes[0..first], &bytes[first + 1..second]))
-}
-
-// The lines of an input: two, or a line and two behind it.
+// The lines of an input: two, or three. The line feed behind the last may be left out, unless this line is empty.
 fn split_lines(bytes: &[u8]) -> Result<InputLines<'_>, FormatFault>
     ensures { MatchResult result (λ lines. Lines bytes.now lines.text.now lines.levels.now (option_map (λ x. x.now) lines.classes)) (λ _. (first second : List ℕ) (third : Option (List ℕ)) → Lines bytes.now first second third → ⊥) }
 {
-    if let Some((text, levels)) = two_lines(bytes) {
-        let classes = None;
-        return Ok(InputLines {
-            text,
-            levels,
-            classes,
-        });
-    }
-    let first = part_end(bytes, b'\n', 0);
-    if first + 1 >= bytes.len() {
+    let body = bytes.strip_suffix(b"\n").unwrap_or(bytes);
+    let mut lines = body.split(|b| *b == b'\n');
+    let text = lines.next().unwrap_or(body);
+    let Some(levels) = lines.next() else {
         let line = if bytes.is_empty() { 1 } else { 2 };
         return Err(FormatFault::MissingLine { line });
-    }
-    let Some((levels, classes)) = two_lines(&bytes[first + 1..]) else {
-        return Err(FormatFault::ExtraLine { line: 4 });
     };
+    let classes = lines.next();
+    if lines.next().is_some() {
+        return Err(FormatFault::ExtraLine { line: 4 });
+    }
     Ok(InputLines {
-        text: &bytes[0..first],
+        text,
         levels,
-        classes: Some(classes),
+        classes,
     })
 }
 
@@ -72,38 +51,20 @@ pub struct Input<'a> {
 pub fn read_input(heap: Global, bytes: &[u8]) -> Result<Input<'_>, InputFault>
     ensures { ReadsInput bytes.now result }
 {
-    let lines = match split_lines(bytes) {
-        Ok(lines) => lines,
-        Err(fault) => return Err(InputFault::Format(fault)),
+    let lines = split_lines(bytes).map_err(InputFault::Format)?;
+    let text = std::str::from_utf8(lines.text).map_err(|error| {
+        let byte = error.valid_up_to() + 1;
+        InputFault::Format(FormatFault::NotUtf8 { byte })
+    })?;
+    let levels = read_levels(heap, lines.levels)?;
+    // A match: mapped and transposed it reads no plainer.
+    let classes = match lines.classes {
+        Some(line) => Some(read_class_line(heap, line)?),
+        None => None,
     };
-    let text = match std::str::from_utf8(lines.text) {
-        Ok(text) => text,
-        Err(error) => {
-            let byte = error.valid_up_to() + 1;
-            return Err(InputFault::Format(FormatFault::NotUtf8 { byte }));
-        }
-    };
-    let levels = match read_levels(heap, lines.levels) {
-        Ok(levels) => levels,
-        Err(fault) => return Err(fault),
-    };
-    let Some(line) = lines.classes else {
-        let classes = None;
-        return Ok(Input {
-            text,
-            levels,
-            classes,
-        });
-    };
-    match read_class_line(heap, line) {
-        Ok(line) => {
-            let classes = Some(line);
-            Ok(Input {
-                text,
-                levels,
-                classes,
-            })
-        }
-        Err(fault) => Err(fault),
-    }
+    Ok(Input {
+        text,
+        levels,
+        classes,
+    })
 }

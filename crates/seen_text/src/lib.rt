@@ -8,8 +8,6 @@
 // - `laws`: what holds of the format itself;
 // - `levels_line`: a line of levels;
 // - `numbers`: numbers in a line, written and read;
-// - `refusal_line`: a refusal, in a line;
-// - `reset_fault`: why no levels are reset;
 // - `resets`: the levels after the level resets;
 // - `see_fault`: why a text is not seen;
 // - `seen_line`: the visual order of a text, and the text in that order.
@@ -23,8 +21,6 @@ mod laws;
 mod levels_line;
 mod numbers;
 mod printing;
-mod refusal_line;
-mod reset_fault;
 mod resets;
 mod see_fault;
 mod seen_line;

@@ -4,12 +4,11 @@ ghost use Rattle.seen_text.specs.Classes.{resets_of};
 ghost use Rattle.seen_text.specs.Numbers.{spelled};
 ghost use Rattle.std.specs.Prelude.{◌≡◌, [], ◌∷◌, ◌++◌, IfOk, Some, None, string_bytes};
 
+use crate::characters::count_of;
 use crate::class_line::ClassLine;
 use crate::format_fault::{FormatFault, InputFault};
 use crate::input::read_input;
 use crate::numbers::spell;
-use crate::refusal_line::{refused_classes, refused_order};
-use crate::reset_fault::ResetFault;
 use crate::resets::reset_levels;
 use crate::see_fault::SeeFault;
 use crate::seen_line::{Seen, see};
@@ -19,7 +18,7 @@ use std::alloc::{AllocError, Global};
 fn seen_lines(heap: Global, seen: &Seen) -> Result<String, AllocError>
     ensures { IfOk result (λ s. string_bytes s ≡ spelled seen.now.order.items ++ (10 ∷ (string_bytes seen.now.text ++ (10 ∷ [])))) }
 {
-    let order = spell(heap, seen.order.as_slice())?;
+    let order = spell(heap, &seen.order)?;
     let line = order.as_str();
     let text = seen.text.as_str();
     format!(in heap; "{line}\n{text}\n")
@@ -29,17 +28,14 @@ fn seen_lines(heap: Global, seen: &Seen) -> Result<String, AllocError>
 fn print_seen(heap: Global, text: &str, levels: &[u8]) -> Result<String, InputFault>
     ensures { Prints text.now levels.now None result }
 {
-    let fault = match see(heap, text, levels) {
-        Ok(seen) => return Ok(seen_lines(heap, &seen)?),
-        Err(fault) => fault,
-    };
-    match fault {
-        SeeFault::Refused(fault) => Ok(refused_order(heap, fault)?),
-        SeeFault::CountsDiffer { characters, levels } => {
+    match see(heap, text, levels) {
+        Ok(seen) => Ok(seen_lines(heap, &seen)?),
+        Err(SeeFault::Refused(fault)) => Ok(format!(in heap; "{fault}\n")?),
+        Err(SeeFault::CountsDiffer { characters, levels }) => {
             let fault = FormatFault::CountsDiffer { characters, levels };
             Err(InputFault::Format(fault))
         }
-        SeeFault::Memory => Err(InputFault::Memory),
+        Err(SeeFault::Memory) => Err(InputFault::Memory),
     }
 }
 
@@ -52,7 +48,7 @@ fn print_reset(
 ) -> Result<String, InputFault>
     ensures { Prints text.now levels.now (Some (resets_of line.now)) result }
 {
-    let characters = text.chars().count();
+    let characters = count_of(text);
     if characters != levels.len() {
         let levels = levels.len();
         let fault = FormatFault::CountsDiffer { characters, levels };
@@ -66,13 +62,9 @@ fn print_reset(
         };
         return Err(InputFault::Format(fault));
     }
-    let fault = match reset_levels(heap, text, levels, line) {
-        Ok(levels) => return print_seen(heap, text, levels.as_slice()),
-        Err(fault) => fault,
-    };
-    match fault {
-        ResetFault::Refused(fault) => Ok(refused_classes(heap, fault)?),
-        ResetFault::Memory => Err(InputFault::Memory),
+    match reset_levels(heap, text, levels, line)? {
+        Ok(levels) => print_seen(heap, text, &levels),
+        Err(fault) => Ok(format!(in heap; "{fault}\n")?),
     }
 }
 
@@ -80,12 +72,9 @@ fn print_reset(
 pub fn answer(heap: Global, bytes: &[u8]) -> Result<String, InputFault>
     ensures { Answers bytes.now result }
 {
-    let input = match read_input(heap, bytes) {
-        Ok(input) => input,
-        Err(fault) => return Err(fault),
-    };
+    let input = read_input(heap, bytes)?;
     match &input.classes {
-        None => print_seen(heap, input.text, input.levels.as_slice()),
-        Some(line) => print_reset(heap, input.text, input.levels.as_slice(), line),
+        None => print_seen(heap, input.text, &input.levels),
+        Some(line) => print_reset(heap, input.text, &input.levels, line),
     }
 }

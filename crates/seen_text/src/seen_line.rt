@@ -5,10 +5,10 @@ ghost use Rattle.seen_text.specs.Sees.{Orders, Sees};
 ghost use Rattle.std.specs.Str.{chars};
 ghost use Rattle.visual_order.specs.VisualOrder.{visual};
 
-use crate::characters::characters;
+use crate::characters::{characters, count_of};
 use crate::see_fault::SeeFault;
 use std::alloc::{AllocError, Global};
-use visual_order::{Character, reorder};
+use visual_order::{Character, OrderFault, reorder};
 
 /// A text as it is seen: the indices of its characters from left to right, and the characters in that order.
 #[derive(Drop)]
@@ -36,20 +36,23 @@ fn in_order(
     Ok(seen)
 }
 
-// The indices of the characters in visual order.
-fn visual_indices(heap: Global, characters: &[Character]) -> Result<Vec<usize>, SeeFault>
-    ensures { Orders (map level_of characters.now) result }
+// The indices of the characters in visual order, or the refusal of the order.
+fn visual_indices(
+    heap: Global,
+    characters: &[Character],
+) -> Result<Result<Vec<usize>, OrderFault>, AllocError>
+    ensures { IfOk result (Orders (map level_of characters.now)) }
 {
     let mut order = vec![in heap; 0; characters.len()]?;
-    reorder(characters, order.as_mut_slice())?;
-    Ok(order)
+    Ok(reorder(characters, &mut order).map(|()| order))
 }
 
 /// The text as seen, from a level for each of its characters.
+#[tactic(auto, using(crate::proofs::Spelt::levels_are))]
 pub fn see(heap: Global, text: &str, levels: &[u8]) -> Result<Seen, SeeFault>
     ensures { Sees text.now levels.now result }
 {
-    let count = text.chars().count();
+    let count = count_of(text);
     if count != levels.len() {
         return Err(SeeFault::CountsDiffer {
             characters: count,
@@ -57,7 +60,7 @@ pub fn see(heap: Global, text: &str, levels: &[u8]) -> Result<Seen, SeeFault>
         });
     }
     let characters = characters(heap, text, levels)?;
-    let order = visual_indices(heap, characters.as_slice())?;
-    let text = in_order(heap, text, characters.as_slice(), order.as_slice())?;
+    let order = visual_indices(heap, &characters)??;
+    let text = in_order(heap, text, &characters, &order)?;
     Ok(Seen { order, text })
 }

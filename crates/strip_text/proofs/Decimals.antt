@@ -1,5 +1,6 @@
 -- Words that write a number as a decimal
-use Rattle.std.proofs.Common.{◌≡◌, ℕ, zero, suc, ◌^◌, ◌<◌, List, length, get_or, Ok, decimal, Result, sym, ap, ◌∙◌, ⊎_elim, arith, length-drop}
+use Rattle.std.proofs.Common.{◌≡◌, ℕ, zero, suc, ◌^◌, ◌<◌, ◌≤◌, List, length, get_or, Ok, Err, Some, decimal, Option, Result, sym, ap, ◌∙◌, ⊎_elim, arith, length-drop}
+use Rattle.std.specs.Result.{result_ok}
 use Rattle.std.specs.Str.Parse.{AllDigits, ParsesUnsigned, digits_value}
 use Rattle.std.proofs.lemmas.Fmt.{decimal_digit, decimal-digits_value, first_decimal, parse-decimal}
 use Rattle.std.proofs.lemmas.Str.Parse.{IsNumeralModel, without_leading_plus_plus, numerals_by_value, parse_plain, tells_digits}
@@ -15,6 +16,9 @@ module _ {E : Type 0} (word : List ℕ) (r : Result ℕ E) (reads : ParsesUnsign
   -- a word that writes a number is read as this number
   pub read_back : (n : ℕ) → n < 2 ^ 64 → word ≡ decimal n → r ≡ Ok n
   read_back n small is = parse-decimal 64 n word r small small is reads
+
+  pub fits : (n : ℕ) → r ≡ Ok n → n ≤ 18446744073709551615
+  fits n is = let read = OkIff-at_ok r _ _ n reads is in omega (arith, read.0.1, read.1)
 
   no_plus : (n : ℕ) → r ≡ Ok n → (1 < length word → 48 < get_or word 0 0) → get_or word 0 0 ≡ 43 → ⊥
   no_plus n is plain e =
@@ -33,6 +37,10 @@ pub no_leading_zero : (word : List ℕ) (n : ℕ) → n < 2 ^ 64 → word ≡ de
 no_leading_zero word zero small is long = absurd (omega (arith, ap length (is ∙ decimal_digit 0 (omega arith))))
 no_leading_zero word (suc n) small is long = omega (arith, first_decimal (suc n) (omega arith) small, ap (λ (t : List ℕ). get_or t 0 0) is)
 
--- two answers of one reading
-pub same_number : {E : Type 0} (r : Result ℕ E) (m n : ℕ) → r ≡ Ok m → r ≡ Ok n → m ≡ n
-same_number r m n p q = cc
+-- what `ok` makes of one reading
+pub kept : {T E : Type 0} (r : Result T E) (o : Option T) (x : T) → o ≡ result_ok r → r ≡ Ok x → o ≡ Some x
+kept r o x e is = e ∙ ap result_ok is
+
+pub was_read : {T E : Type 0} (r : Result T E) (o : Option T) (x : T) → o ≡ result_ok r → o ≡ Some x → r ≡ Ok x
+was_read (Ok y) o x e is = cc
+was_read (Err d) o x e is = cc

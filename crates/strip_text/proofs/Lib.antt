@@ -1,2 +1,3 @@
 mod Decimals
 mod JoinedRows
+mod Narrowing

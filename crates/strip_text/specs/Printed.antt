@@ -1,53 +1,12 @@
 -- What is written for each answer, byte by byte
 use Rattle.std.specs.Prelude.{ℕ, List, [], ◌∷◌, ◌++◌, length, Some, None, codes, decimal, Option}
-use Rattle.entry.specs.Faults.{call_number}
-use Rattle.entry.specs.declared.fault.CallTable.{CallTable}
-use Rattle.entry.specs.declared.fault.CallTable.TheVariants as call
-use Rattle.entry.specs.declared.fault.EntryFault.{EntryFault}
-use Rattle.entry.specs.declared.fault.EntryFault.TheVariants.{Tables, Call}
 use Rattle.entry.specs.declared.progress.Tally.{Tally}
 use Rattle.layout.specs.Elided.{range_glyphs}
 use Rattle.layout.specs.declared.line.ElidedBytes.{ElidedBytes}
-use Rattle.measure.specs.Settings.{cause_number}
-use Rattle.measure.specs.declared.settings.SettingFault.{SettingFault}
-use Rattle.measure.specs.declared.settings.SettingName.{SettingName}
-use Rattle.measure.specs.declared.settings.SettingName.TheVariants as setting
-use Rattle.paragraph.specs.Faults.{number_of}
 use Rattle.paragraph.specs.Text.{Text}
-use Rattle.paragraph.specs.declared.fault.TableName.{TableName}
-use Rattle.paragraph.specs.declared.fault.TableName.TheVariants as table
 use Rattle.paragraph.specs.declared.place.Place.{Place}
 use Rattle.std.specs.List.{flat_map}
 use Rattle.walk.specs.declared.line.VlRange.{VlRange}
-
--- the names of the tables, of what a call is about, and of a measure's settings
-abbrev pub table_name : TableName → List ℕ
-table_name table.Glyphs = codes "glyphs"
-table_name table.Words = codes "words"
-table_name table.Spans = codes "spans"
-table_name table.Ellipsis = codes "ellipsis"
-
-abbrev pub call_table_name : CallTable → List ℕ
-call_table_name call.Entry = codes "entry"
-call_table_name call.Paragraph = codes "paragraph"
-call_table_name call.Width = codes "width"
-call_table_name call.Ranges = codes "ranges"
-call_table_name call.Order = codes "order"
-
-abbrev pub setting_name : SettingName → List ℕ
-setting_name setting.Size = codes "size"
-setting_name setting.Spacing = codes "spacing"
-
--- a refusal, as "refused 3 at 5 in words"
-abbrev pub refusal_row : ℕ → ℕ → List ℕ → List ℕ
-refusal_row number row name = codes "refused " ++ (decimal number ++ (codes " at " ++ (decimal row ++ (codes " in " ++ (name ++ (10 ∷ []))))))
-
-abbrev pub entry_refusal : EntryFault → List ℕ
-entry_refusal (Tables f) = refusal_row (number_of f.cause) f.row (table_name f.table)
-entry_refusal (Call f) = refusal_row (call_number f.cause) f.row (call_table_name f.table)
-
-abbrev pub setting_refusal : SettingFault → List ℕ
-setting_refusal f = refusal_row (cause_number f.cause) f.row (setting_name f.table)
 
 -- tables that are granted, as "opened 7 2 1"
 abbrev pub opened_row : ℕ → ℕ → ℕ → List ℕ

@@ -1,8 +1,4 @@
 // Why an input is not of the format, and at which line.
-ghost use Rattle.strip_text.specs.declared.fault.InputFault.TheVariants.{Memory};
-ghost use Rattle.std.specs.Prelude.{◌≡◌};
-
-use std::alloc::{AllocError, AllocFailed};
 use std::fmt;
 
 /// The words of which one has to stand in a field.
@@ -25,6 +21,33 @@ impl fmt::Display for Choices {
     }
 }
 
+/// What is wrong with a field.
+#[derive(Clone, Copy, Debug)]
+pub enum FieldCause {
+    /// It is no whole number of 0 to `most`, or there is none.
+    NoNumber { most: usize },
+    /// It is no float, or there is none.
+    NoFloat,
+    /// It is none of the words that may stand there.
+    NoChoice(Choices),
+    /// It stands where the line should end.
+    GoesOn,
+    /// It names no measure, or none that goes on so.
+    NoMeasure,
+}
+
+impl fmt::Display for FieldCause {
+    fn fmt<W: fmt::Write>(&self, f: &mut fmt::Formatter<W>) -> fmt::Result {
+        match *self {
+            FieldCause::NoNumber { most } => write!(f, "is no whole number of 0 to {most}"),
+            FieldCause::NoFloat => write!(f, "is no float"),
+            FieldCause::NoChoice(choices) => write!(f, "is none of {choices}"),
+            FieldCause::GoesOn => write!(f, "is one too many"),
+            FieldCause::NoMeasure => write!(f, "names no measure"),
+        }
+    }
+}
+
 /// What is wrong with a line. Fields are counted from 1, and a line's first word is its first field.
 #[derive(Clone, Copy, Debug)]
 pub enum LineCause {
@@ -36,16 +59,8 @@ pub enum LineCause {
     OutOfPlace,
     /// A line that names a measure has to come before it.
     NoMeasureYet,
-    /// The field is no whole number of 0 to `most`, or there is none.
-    NoNumber { field: usize, most: usize },
-    /// The field is no float, or there is none.
-    NoFloat { field: usize },
-    /// The field is none of the words that may stand there.
-    NoChoice { field: usize, choices: Choices },
-    /// The line goes on where it should end.
-    GoesOn { field: usize },
-    /// The field names no measure, or none that goes on so.
-    NoMeasure { field: usize },
+    /// A field is at fault.
+    Field { field: usize, cause: FieldCause },
 }
 
 impl fmt::Display for LineCause {
@@ -55,15 +70,7 @@ impl fmt::Display for LineCause {
             LineCause::Strange => write!(f, "no line of the format begins so"),
             LineCause::OutOfPlace => write!(f, "such a line may not stand here"),
             LineCause::NoMeasureYet => write!(f, "no measure is named before it"),
-            LineCause::NoNumber { field, most } => {
-                write!(f, "field {field} is no whole number of 0 to {most}")
-            }
-            LineCause::NoFloat { field } => write!(f, "field {field} is no float"),
-            LineCause::NoChoice { field, choices } => {
-                write!(f, "field {field} is none of {choices}")
-            }
-            LineCause::GoesOn { field } => write!(f, "field {field} is one too many"),
-            LineCause::NoMeasure { field } => write!(f, "field {field} names no measure"),
+            LineCause::Field { field, cause } => write!(f, "field {field} {cause}"),
         }
     }
 }
@@ -84,26 +91,4 @@ impl fmt::Display for LineFault {
 }
 
 /// Why an input gets no answer.
-#[derive(Drop)]
-pub enum InputFault {
-    /// It is not of the format.
-    Format(LineFault),
-    /// There is no memory.
-    Memory,
-}
-
-impl From<AllocError> for InputFault {
-    ghost from_gives = { λ _ r. r ≡ Memory };
-
-    fn from(_: AllocError) -> InputFault {
-        InputFault::Memory
-    }
-}
-
-impl<T: Drop> From<AllocFailed<T>> for InputFault {
-    ghost from_gives = { λ _ r. r ≡ Memory };
-
-    fn from(_: AllocFailed<T>) -> InputFault {
-        InputFault::Memory
-    }
-}
+pub type InputFault = program::InputFault<LineFault>;

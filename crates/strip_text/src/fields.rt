@@ -1,10 +1,11 @@
 // The fields of a line, one after another, with single spaces between them.
-ghost use Rattle.std.specs.Prelude.{◌≤◌, IfOk};
+ghost use Rattle.std.specs.Prelude.{◌≡◌, ◌↔◌, IsOk};
+ghost use Rattle.std.specs.Fn.{FnOnceReturnsAt};
 ghost use Rattle.std.specs.Option.{option_map};
-ghost use Rattle.strip_text.specs.Fields.{FirstField};
+ghost use Rattle.strip_text.specs.Fields.{FirstField, NextSays, Writes, ReadsFloat};
 
-use crate::fault::{Choices, LineCause};
-use crate::numbers::{read_float, read_number, read_u8, read_u16};
+use crate::fault::{Choices, FieldCause, LineCause};
+use crate::numbers::{Whole, read_float, read_number};
 
 /// What is left of a line's fields, and how many were asked for.
 #[derive(Clone, Copy)]
@@ -44,85 +45,76 @@ impl<'a> Fields<'a> {
         self.left.unwrap_or("")
     }
 
-    /// The place of the field last asked for, from 1.
-    pub fn place(&self) -> usize {
-        self.asked
+    /// What is said of the field last asked for.
+    pub fn fault(&self, cause: FieldCause) -> LineCause {
+        LineCause::Field {
+            field: self.asked,
+            cause,
+        }
     }
 
-    /// A whole number of 0 to `most`.
-    pub fn number(&mut self, most: usize) -> Result<usize, LineCause>
-        ensures { IfOk result (λ n. n ≤ most) }
+    /// What the next field says to `read`. Where it says nothing, or there is none, that is a fault of this cause.
+    pub fn read<T, F: FnOnce(&'a str) -> Option<T>>(
+        &mut self,
+        read: F,
+        cause: FieldCause,
+    ) -> Result<T, LineCause>
+        requires { F.IsAlwaysCallable read }
+        ensures { NextSays (λ f r. FnOnceReturnsAt F.FnOnce read f r) (option_map (λ x. x.now) self.old.left) result (option_map (λ x. x.now) self.new.left) }
     {
-        let found = match self.next_field() {
-            Some(field) => read_number(field, most),
-            None => None,
-        };
-        let field = self.asked;
-        found.ok_or(LineCause::NoNumber { field, most })
+        let said = self.next_field().and_then(read);
+        said.ok_or(self.fault(cause))
     }
 
-    pub fn short(&mut self) -> Result<u16, LineCause>
-        ensures { IfOk result (λ n. n ≤ 65535) }
+    /// A whole number of the type.
+    pub fn number<N: Whole>(&mut self) -> Result<N, LineCause>
+        ensures { NextSays (λ f r. Writes N.MOST f (option_map N.number_of r)) (option_map (λ x. x.now) self.old.left) result (option_map (λ x. x.now) self.new.left) }
     {
-        let found = match self.next_field() {
-            Some(field) => read_u16(field),
-            None => None,
-        };
-        let field = self.asked;
-        found.ok_or(LineCause::NoNumber {
-            field,
-            most: 65_535,
-        })
+        let cause = FieldCause::NoNumber { most: N::MOST };
+        let number = self.read(read_number, cause)?;
+        N::try_from(number).ok().ok_or(self.fault(cause))
     }
 
-    pub fn byte(&mut self) -> Result<u8, LineCause>
-        ensures { IfOk result (λ n. n ≤ 255) }
+    pub fn float(&mut self) -> Result<f32, LineCause>
+        ensures { NextSays ReadsFloat (option_map (λ x. x.now) self.old.left) result (option_map (λ x. x.now) self.new.left) }
     {
-        let found = match self.next_field() {
-            Some(field) => read_u8(field),
-            None => None,
-        };
-        let field = self.asked;
-        found.ok_or(LineCause::NoNumber { field, most: 255 })
+        self.read(read_float, FieldCause::NoFloat)
     }
 
-    pub fn float(&mut self) -> Result<f32, LineCause> {
-        let found = match self.next_field() {
-            Some(field) => read_float(field),
-            None => None,
-        };
-        let field = self.asked;
-        found.ok_or(LineCause::NoFloat { field })
+    /// One of the words that may stand there.
+    pub fn choice<T, F: FnOnce(&'a str) -> Option<T>>(
+        &mut self,
+        choices: Choices,
+        read: F,
+    ) -> Result<T, LineCause>
+        requires { F.IsAlwaysCallable read }
+        ensures { NextSays (λ f r. FnOnceReturnsAt F.FnOnce read f r) (option_map (λ x. x.now) self.old.left) result (option_map (λ x. x.now) self.new.left) }
+    {
+        self.read(read, FieldCause::NoChoice(choices))
     }
 
-    /// A float, or `-` for none.
-    pub fn float_or_none(&mut self) -> Result<Option<f32>, LineCause> {
+    /// What `read` reads, or `-` for none.
+    pub fn or_none<T, F: FnOnce(&mut Fields<'a>) -> Result<T, LineCause>>(
+        &mut self,
+        read: F,
+    ) -> Result<Option<T>, LineCause>
+        requires { F.IsAlwaysCallable read }
+    {
         let mut ahead = *self;
         if ahead.next_field() == Some("-") {
             *self = ahead;
             return Ok(None);
         }
-        Ok(Some(self.float()?))
+        Ok(Some(read(self)?))
     }
 
     /// That no field is left.
-    pub fn end(&mut self) -> Result<(), LineCause> {
+    pub fn end(&mut self) -> Result<(), LineCause>
+        ensures { IsOk result ↔ (option_map (λ x. x.now) self.old.left ≡ None) }
+    {
         match self.next_field() {
-            Some(_) => Err(LineCause::GoesOn { field: self.asked }),
+            Some(_) => Err(self.fault(FieldCause::GoesOn)),
             None => Ok(()),
         }
     }
-
-    /// What is said where a field is none of the words that may stand there.
-    pub fn no_choice<T>(&self, choices: Choices) -> Result<T, LineCause> {
-        let field = self.asked;
-        Err(LineCause::NoChoice { field, choices })
-    }
-}
-
-/// What stands behind the first field of a line.
-pub(crate) fn behind_first(line: &str) -> &str {
-    let mut fields = Fields::of(line);
-    let _ = fields.next_field();
-    fields.rest()
 }

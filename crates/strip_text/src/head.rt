@@ -1,180 +1,106 @@
 // What stands before the calls: the text, the tables and the measure.
-use crate::fault::{InputFault, LineCause};
-use crate::fields::behind_first;
-use crate::lines::fault_at;
+use crate::fault::{FieldCause, InputFault, LineCause};
+use crate::lines::{Line, fault_at};
 use crate::rows::{HeadLine, RawRow, read_head_line};
-use glyph::glyph::Glyph;
 use measure::settings::SettingFault;
 use measure_text::named::{NameCause, NamedMeasure, read_measure};
 use paragraph::direction::Direction;
-use paragraph::span::Span;
-use paragraph::word::Word;
-use std::alloc::{AllocError, AllocFailed, Global};
+use paragraph::tables::OwnedTables;
+use std::alloc::{AllocError, Global};
 
-/// A paragraph's tables as they are given, with any numbers.
+// Tables of a direction, without a row.
+fn begin_tables(heap: Global, direction: Direction) -> OwnedTables {
+    let mut tables = OwnedTables::new(heap);
+    tables.direction = direction;
+    tables
+}
+
+fn add_row(tables: &mut OwnedTables, row: RawRow) -> Result<(), AllocError> {
+    match row {
+        RawRow::Glyph(glyph) => tables.glyphs.push(glyph)?,
+        RawRow::Word(word) => tables.words.push(word)?,
+        RawRow::Span(span) => tables.spans.push(span)?,
+        RawRow::Ellipsis(glyph) => tables.ellipsis.push(glyph)?,
+    }
+    Ok(())
+}
+
+/// The text, if it is given, the paragraph's tables, and those of another paragraph, if it is given.
 #[derive(Drop)]
-pub(crate) struct RawTables {
-    pub glyphs: Vec<Glyph>,
-    pub words: Vec<Word>,
-    pub spans: Vec<Span>,
-    pub ellipsis: Vec<Glyph>,
-    pub direction: Direction,
+pub(crate) struct Head<'a> {
+    pub text: Option<&'a str>,
+    pub own: OwnedTables,
+    pub other: Option<OwnedTables>,
 }
 
-impl RawTables {
-    fn new(heap: Global) -> RawTables {
-        RawTables {
-            glyphs: Vec::new(heap),
-            words: Vec::new(heap),
-            spans: Vec::new(heap),
-            ellipsis: Vec::new(heap),
-            direction: Direction::LeftToRight,
+impl Head<'_> {
+    // The tables that a row belongs to: those that were begun last.
+    fn add_row(&mut self, row: RawRow) -> Result<(), AllocError> {
+        match &mut self.other {
+            Some(other) => add_row(other, row),
+            None => add_row(&mut self.own, row),
         }
     }
-
-    fn add(&mut self, row: RawRow) -> Result<(), AllocError> {
-        match row {
-            RawRow::Glyph(glyph) => self.glyphs.push(glyph)?,
-            RawRow::Word(word) => self.words.push(word)?,
-            RawRow::Span(span) => self.spans.push(span)?,
-            RawRow::Ellipsis(glyph) => self.ellipsis.push(glyph)?,
-        }
-        Ok(())
-    }
 }
 
-/// The measure that is named, or its refused setting.
-#[derive(Clone, Copy)]
-pub(crate) enum Asked {
-    Named(NamedMeasure),
-    Refused(SettingFault),
-}
-
-/// Which tables the rows belong to.
-#[derive(Clone, Copy)]
-pub(crate) enum Filling {
-    Neither,
-    Own,
-    Other,
-}
-
-/// What stands before the calls.
+/// What stands before the calls: the head and the measure that is named, or its refused setting; and the calls' lines.
 #[derive(Drop)]
-pub(crate) struct Head {
-    /// The place of the line with the text, if it is given.
-    pub text: Option<usize>,
-    pub own: RawTables,
-    /// The tables of another paragraph.
-    pub other: RawTables,
-    pub has_other: bool,
-    pub filling: Filling,
-}
-
-impl Head {
-    fn new(heap: Global) -> Head {
-        Head {
-            text: None,
-            own: RawTables::new(heap),
-            other: RawTables::new(heap),
-            has_other: false,
-            filling: Filling::Neither,
-        }
-    }
-
-    // Whether such a line may stand behind those read so far.
-    fn admits(&self, line: HeadLine) -> bool {
-        match self.filling {
-            Filling::Neither => match line {
-                HeadLine::Text => self.text.is_none(),
-                HeadLine::Paragraph(_) => true,
-                _ => false,
-            },
-            Filling::Own => match line {
-                HeadLine::Text | HeadLine::Paragraph(_) => false,
-                _ => true,
-            },
-            Filling::Other => match line {
-                HeadLine::Row(_) | HeadLine::Measure => true,
-                _ => false,
-            },
-        }
-    }
-
-    // Takes in the line at this place.
-    fn add(&mut self, place: usize, line: HeadLine) -> Result<(), AllocError> {
-        match line {
-            HeadLine::Text => self.text = Some(place),
-            HeadLine::Paragraph(direction) => {
-                self.own.direction = direction;
-                self.filling = Filling::Own;
-            }
-            HeadLine::Other(direction) => {
-                self.other.direction = direction;
-                self.has_other = true;
-                self.filling = Filling::Other;
-            }
-            HeadLine::Row(row) => match self.filling {
-                Filling::Other => self.other.add(row)?,
-                _ => self.own.add(row)?,
-            },
-            HeadLine::Measure => {}
-        }
-        Ok(())
-    }
-}
-
-/// The head, the measure, and the place of the first line behind it.
-#[derive(Drop)]
-pub(crate) struct Opening {
-    pub head: Head,
-    pub asked: Asked,
-    pub calls: usize,
+pub(crate) struct Opening<'a> {
+    pub head: Head<'a>,
+    pub measure: Result<NamedMeasure, SettingFault>,
+    pub calls: &'a [Line<'a>],
 }
 
 // The measure that is named, or its refused setting, or why it is none of the format.
-fn read_asked(name: &str) -> Result<Asked, LineCause> {
-    let fault = match read_measure(name) {
-        Ok(named) => return Ok(Asked::Named(named)),
-        Err(fault) => fault,
-    };
-    match fault.cause {
-        NameCause::Setting(refused) => Ok(Asked::Refused(refused)),
-        // the line's first word stands before the measure's name
-        _ => Err(LineCause::NoMeasure {
-            field: fault.word.saturating_add(2),
-        }),
+fn read_named(name: &str) -> Result<Result<NamedMeasure, SettingFault>, LineCause> {
+    match read_measure(name) {
+        Ok(named) => Ok(Ok(named)),
+        Err(fault) => match fault.cause {
+            NameCause::Setting(refused) => Ok(Err(refused)),
+            // the line's first word stands before the measure's name
+            _ => Err(LineCause::Field {
+                field: fault.word.saturating_add(2),
+                cause: FieldCause::NoMeasure,
+            }),
+        },
     }
 }
 
-/// Reads the lines up to that of the measure, where `before` lines stand before all of these.
-pub(crate) fn read_head(
+/// Reads the lines up to that of the measure.
+pub(crate) fn read_head<'a>(
     heap: Global,
-    lines: &[&str],
-    before: usize,
-) -> Result<Opening, InputFault> {
-    let mut head = Head::new(heap);
-    for (i, text) in lines.iter().enumerate() {
-        if text.starts_with('#') {
+    lines: &'a [Line<'a>],
+) -> Result<Opening<'a>, InputFault> {
+    let mut text = None;
+    let mut head = None;
+    for (i, line) in lines.iter().enumerate() {
+        if line.is_comment() {
             continue;
         }
-        let line = match read_head_line(text) {
-            Ok(line) => line,
-            Err(cause) => return Err(fault_at(before, i, cause)),
-        };
-        if !head.admits(line) {
-            return Err(fault_at(before, i, LineCause::OutOfPlace));
+        let read = read_head_line(line.text).map_err(|cause| line.fault(cause))?;
+        if let HeadLine::Measure(name) = read {
+            return Ok(Opening {
+                head: head.ok_or(line.fault(LineCause::OutOfPlace))?,
+                measure: read_named(name).map_err(|cause| line.fault(cause))?,
+                calls: &lines[i + 1..],
+            });
         }
-        if let HeadLine::Measure = line {
-            return match read_asked(behind_first(text)) {
-                Ok(asked) => Ok(Opening {
-                    head,
-                    asked,
-                    calls: i + 1,
-                }),
-                Err(cause) => Err(fault_at(before, i, cause)),
-            };
+        match (read, &mut head) {
+            (HeadLine::Text(given), None) if text.is_none() => text = Some(given),
+            (HeadLine::Paragraph(direction), None) => {
+                head = Some(Head {
+                    text,
+                    own: begin_tables(heap, direction),
+                    other: None,
+                });
+            }
+            (HeadLine::Other(direction), Some(head)) if head.other.is_none() => {
+                head.other = Some(begin_tables(heap, direction));
+            }
+            (HeadLine::Row(row), Some(head)) => head.add_row(row)?,
+            _ => return Err(line.fault(LineCause::OutOfPlace)),
         }
-        head.add(i, line)?;
     }
-    Err(fault_at(before, lines.len(), LineCause::NoMeasureYet))
+    let end = lines.last().map_or(0, |line| line.number);
+    Err(fault_at(end.saturating_add(1), LineCause::NoMeasureYet))
 }

@@ -28,4 +28,4 @@ mod width_text;
 mod written;
 
 pub use answering::answer;
-pub use fault::{InputFault, LineCause, LineFault};
+pub use fault::{Choices, FieldCause, InputFault, LineCause, LineFault};

@@ -1,18 +1,68 @@
 // Single fields: whole numbers and floats.
-ghost use Rattle.strip_text.specs.Fields.{Writes, ReadsBits, ReadsDecimal, ReadsFloat};
+ghost use Rattle.std.specs.Prelude.{ℕ, Result};
+ghost use Rattle.std.proofs.Common.{lit<};
+ghost use Rattle.strip_text.specs.Fields.{ConvertsUpTo, converts_up_to, Writes, ReadsBits, ReadsFloat};
 
-use std::num::f32_from_bits_with_nan;
+use std::num::{TryFromIntError, f32_from_bits_with_nan};
 
-/// The whole number of 0 to `most` that a field writes as a decimal, with no sign and no leading zero.
-pub(crate) fn read_number(field: &str, most: usize) -> Option<usize>
-    ensures { Writes most field.now result }
+/// A type of whole numbers that a field can write.
+pub(crate) trait Whole: TryFrom<usize, Error = TryFromIntError> {
+    ghost number_of: { Self → ℕ };
+
+    ghost MOST: { ℕ };
+
+    /// The largest one.
+    const MOST: usize;
+
+    ghost converts: { ConvertsUpTo MOST number_of Self.try_from_gives };
+}
+
+impl Whole for u8 {
+    ghost number_of = { λ n. n };
+
+    ghost MOST = { 255 };
+
+    const MOST: usize = 255;
+
+    ghost converts = { converts_up_to 255 (lit< tt) };
+}
+
+impl Whole for u16 {
+    ghost number_of = { λ n. n };
+
+    ghost MOST = { 65535 };
+
+    const MOST: usize = 65_535;
+
+    ghost converts = { converts_up_to 65535 (lit< tt) };
+}
+
+impl Whole for u32 {
+    ghost number_of = { λ n. n };
+
+    ghost MOST = { 4294967295 };
+
+    const MOST: usize = 4_294_967_295;
+
+    ghost converts = { converts_up_to 4294967295 (lit< tt) };
+}
+
+impl Whole for usize {
+    ghost number_of = { λ n. n };
+
+    ghost MOST = { 18446744073709551615 };
+
+    const MOST: usize = 18_446_744_073_709_551_615;
+
+    ghost converts = { converts_up_to 18446744073709551615 (lit< tt) };
+}
+
+/// The number that a field writes as a decimal, with no sign and no leading zero. `seen_text` reads a byte from bytes; the two share but the test of the first
+/// digit.
+pub(crate) fn read_number(field: &str) -> Option<usize>
+    ensures { Writes 18446744073709551615 field.now result }
 {
-    let Ok(number) = field.parse::<usize>() else {
-        return None;
-    };
-    if number > most {
-        return None;
-    }
+    let number = field.parse::<usize>().ok()?;
     let bytes = field.as_bytes();
     if bytes.len() > 1 && bytes[0] <= b'0' {
         return None;
@@ -20,49 +70,11 @@ pub(crate) fn read_number(field: &str, most: usize) -> Option<usize>
     Some(number)
 }
 
-/// The same of a number that fits 8 bits.
-pub(crate) fn read_u8(field: &str) -> Option<u8>
-    ensures { Writes 255 field.now result }
-{
-    match read_number(field, 255) {
-        Some(number) => Some(number as u8),
-        None => None,
-    }
-}
-
-/// The same of a number that fits 16 bits.
-pub(crate) fn read_u16(field: &str) -> Option<u16>
-    ensures { Writes 65535 field.now result }
-{
-    match read_number(field, 65_535) {
-        Some(number) => Some(number as u16),
-        None => None,
-    }
-}
-
-/// The same of a number that fits 32 bits.
-pub(crate) fn read_u32(field: &str) -> Option<u32>
-    ensures { Writes 4294967295 field.now result }
-{
-    match read_number(field, 4_294_967_295) {
-        Some(number) => Some(number as u32),
-        None => None,
-    }
-}
-
 fn read_bits(digits: &str) -> Option<f32>
     ensures { ReadsBits digits.now result }
 {
-    match u32::from_str_radix(digits, 16) {
-        Ok(bits) => Some(f32_from_bits_with_nan(bits)),
-        Err(_) => None,
-    }
-}
-
-fn read_decimal(field: &str) -> Option<f32>
-    ensures { ReadsDecimal field.now result }
-{
-    field.parse::<f32>().ok()
+    let bits = u32::from_str_radix(digits, 16).ok()?;
+    Some(f32_from_bits_with_nan(bits))
 }
 
 /// The float that a field says: behind `0x` its bits in hex, else what Rust reads as an `f32`.
@@ -71,6 +83,6 @@ pub(crate) fn read_float(field: &str) -> Option<f32>
 {
     match field.strip_prefix("0x") {
         Some(digits) => read_bits(digits),
-        None => read_decimal(field),
+        None => field.parse::<f32>().ok(),
     }
 }

@@ -1,20 +1,20 @@
 // An entry opened, and the calls performed on it.
-ghost use Rattle.std.specs.Prelude.{◌≡◌, take};
+ghost use Rattle.std.specs.Prelude.{◌≡◌, take, length, IfOk, string_bytes};
+ghost use Rattle.strip_text.specs.Printed.{opened_row};
 
-use crate::head::{Head, RawTables};
+use crate::head::Head;
 use crate::seen::seen_row;
 use crate::steps::{Lent, Step};
 use crate::width_text::WidthText;
 use crate::written::{
-    elided_row, entry_refusal, line_row, opened_row, order_row, range_rows, tally_row,
+    elided_row, line_row, opened_row, order_row, range_rows, refusal_row, tally_row,
 };
 use entry::call::Call;
 use entry::entry::Entry;
-use entry::fault::EntryFault;
 use layout::line::VisualLine;
 use measure::measure::Measure;
 use paragraph::paragraph::Paragraph;
-use paragraph::place::Place;
+use paragraph::tables::OwnedTables;
 use std::alloc::{AllocError, Global};
 use walk::line::VlRange;
 
@@ -27,6 +27,14 @@ struct Paragraphs {
 }
 
 impl Paragraphs {
+    fn empty(heap: Global) -> Paragraphs {
+        Paragraphs {
+            own: Paragraph::empty(heap),
+            other: Paragraph::empty(heap),
+            lent: Lent::Own,
+        }
+    }
+
     fn lent(&self) -> &Paragraph {
         match self.lent {
             Lent::Own => &self.own,
@@ -43,175 +51,138 @@ struct Lists {
 }
 
 impl Lists {
-    fn new(heap: Global, ranges: usize, order: usize) -> Result<Lists, AllocError> {
-        let nowhere = Place { word: 0, glyph: 0 };
-        let blank = VlRange {
-            span: None,
-            start: nowhere,
-            end: nowhere,
-            level: 0,
-        };
+    fn new(heap: Global, ranges: usize, order: usize) -> Result<Lists, AllocError>
+        ensures { IfOk result (λ lists. (length lists.ranges.items ≡ ranges) × (length lists.order.items ≡ order)) }
+    {
         Ok(Lists {
-            ranges: vec![in heap; blank; ranges]?,
+            ranges: vec![in heap; VlRange::default(); ranges]?,
             order: vec![in heap; 0; order]?,
         })
     }
 }
 
-// The first `count` items of a list, or all if it has fewer.
+// The first `count` items of a list, or all if it has fewer: one line, for which a crate to share it with others would be no plainer.
 fn first_of<T>(list: &[T], count: usize) -> &[T]
     ensures { result.now ≡ take count list.now }
 {
-    if count < list.len() {
-        &list[0..count]
-    } else {
-        list
-    }
+    &list[..count.min(list.len())]
 }
 
-// What a line that was laid looks like: its rows, and, where the text is given, how it is seen.
-fn line_block<W: WidthText>(
+// An open entry, what its calls are lent, and the text, if it is given.
+#[derive(Drop)]
+struct Session<'a, M> {
     heap: Global,
-    text: Option<&str>,
-    paragraph: &Paragraph,
-    lists: &Lists,
-    number: usize,
-    line: VisualLine<W>,
-) -> Result<String, AllocError> {
-    let tables = paragraph.tables();
-    let ranges = first_of(lists.ranges.as_slice(), line.ranges);
-    let order = first_of(lists.order.as_slice(), line.ranges);
-    let width = line.width.write_width(heap)?;
-    let mut block = line_row(heap, number, line.ranges, line.blanks, width.as_str())?;
-    block.push_str(range_rows(heap, tables, ranges)?.as_str())?;
-    block.push_str(elided_row(heap, line.elided)?.as_str())?;
-    block.push_str(order_row(heap, order)?.as_str())?;
-    if let Some(text) = text {
-        block.push_str(seen_row(heap, text, tables, ranges, order)?.as_str())?;
-    }
-    Ok(block)
+    text: Option<&'a str>,
+    entry: Entry<M>,
+    paragraphs: Paragraphs,
+    lists: Lists,
 }
 
-// Performs a call, and writes what it answers.
-fn call_block<W: WidthText, M: Measure<Width = W>>(
-    heap: Global,
-    text: Option<&str>,
-    entry: &mut Entry<M>,
-    paragraph: &Paragraph,
-    lists: &mut Lists,
-    call: Call<W>,
-) -> Result<String, AllocError> {
-    let ranges = lists.ranges.as_mut_slice();
-    let order = lists.order.as_mut_slice();
-    let answer = match call {
-        Call::Count => return tally_row(heap, entry.tally()),
-        Call::Take { width } => entry.take(paragraph, width, ranges, order),
-        Call::Close { ellipsize, width } => {
-            entry.close(paragraph, ellipsize, width, ranges, order)
+impl<W: WidthText, M: Measure<Width = W>> Session<'_, M> {
+    // Performs a step, and writes what it answers.
+    fn step(&mut self, step: Step<W>) -> Result<String, AllocError> {
+        match step {
+            Step::Call(call) => return self.call(call),
+            Step::Lists { ranges, order } => {
+                self.lists = Lists::new(self.heap, usize::from(ranges), usize::from(order))?;
+            }
+            Step::Lend(lent) => self.paragraphs.lent = lent,
         }
-    };
-    match answer {
-        Ok(line) => line_block(heap, text, paragraph, lists, entry.tally().lines, line),
-        Err(fault) => entry_refusal(heap, fault),
+        Ok(String::new(self.heap))
     }
+
+    fn call(&mut self, call: Call<W>) -> Result<String, AllocError> {
+        let entry = &mut self.entry;
+        let paragraph = self.paragraphs.lent();
+        let ranges = self.lists.ranges.as_mut_slice();
+        let order = self.lists.order.as_mut_slice();
+        let answer = match call {
+            Call::Count => return tally_row(self.heap, entry.tally()),
+            Call::Take { width } => entry.take(paragraph, width, ranges, order),
+            Call::Close { ellipsize, width } => {
+                entry.close(paragraph, ellipsize, width, ranges, order)
+            }
+        };
+        match answer {
+            Ok(line) => self.line_rows(line),
+            Err(fault) => refusal_row(self.heap, &fault),
+        }
+    }
+
+    // What a line that was laid looks like: its rows, and, where the text is given, how it is seen.
+    fn line_rows(&self, line: VisualLine<W>) -> Result<String, AllocError> {
+        let heap = self.heap;
+        let tables = self.paragraphs.lent().tables().rows;
+        let ranges = first_of(self.lists.ranges.as_slice(), line.ranges);
+        let order = first_of(self.lists.order.as_slice(), line.ranges);
+        let number = self.entry.tally().lines;
+        let width = line.width.write_width(heap)?;
+        let mut rows = line_row(heap, number, line.ranges, line.blanks, width.as_str())?;
+        rows.push_str(range_rows(heap, tables, ranges)?.as_str())?;
+        rows.push_str(elided_row(heap, line.elided)?.as_str())?;
+        rows.push_str(order_row(heap, order)?.as_str())?;
+        if let Some(text) = self.text {
+            rows.push_str(seen_row(heap, text, tables, ranges, order)?.as_str())?;
+        }
+        Ok(rows)
+    }
+}
+
+// What is written where these tables are granted.
+fn granted_row(heap: Global, tables: &OwnedTables) -> Result<String, AllocError>
+    ensures { IfOk result (λ s. string_bytes s ≡ opened_row (length tables.now.glyphs.items) (length tables.now.words.items) (length tables.now.spans.items)) }
+{
+    opened_row(
+        heap,
+        tables.glyphs.len(),
+        tables.words.len(),
+        tables.spans.len(),
+    )
 }
 
 // Fills another paragraph, which stays empty if its tables are refused.
 fn fill_other(
     heap: Global,
     other: &mut Paragraph,
-    tables: RawTables,
+    tables: OwnedTables,
 ) -> Result<String, AllocError> {
-    let RawTables {
-        glyphs,
-        words,
-        spans,
-        ellipsis,
-        direction,
-    } = tables;
-    let row = opened_row(heap, glyphs.len(), words.len(), spans.len())?;
-    match other.fill(glyphs, words, spans, ellipsis, direction) {
-        Ok(()) => format!(in heap; "other {row}"),
-        Err(fault) => {
-            let refusal = entry_refusal(heap, EntryFault::Tables(fault))?;
-            format!(in heap; "other {refusal}")
-        }
-    }
-}
-
-// Performs the steps one after another, and writes what each answers behind `out`.
-fn perform_steps<W: WidthText, M: Measure<Width = W>>(
-    heap: Global,
-    out: &mut String,
-    text: Option<&str>,
-    entry: &mut Entry<M>,
-    paragraphs: &mut Paragraphs,
-    places: usize,
-    steps: &[Step<W>],
-) -> Result<(), AllocError> {
-    let mut lists = Lists::new(heap, places, places)?;
-    for step in steps {
-        match *step {
-            Step::Call(call) => {
-                let paragraph = paragraphs.lent();
-                let block = call_block(heap, text, entry, paragraph, &mut lists, call)?;
-                out.push_str(block.as_str())?;
-            }
-            Step::Lists { ranges, order } => {
-                lists = Lists::new(heap, usize::from(ranges), usize::from(order))?;
-            }
-            Step::Lend(lent) => paragraphs.lent = lent,
-        }
-    }
-    Ok(())
+    let granted = granted_row(heap, &tables)?;
+    let row = match other.fill(tables) {
+        Ok(()) => granted,
+        Err(fault) => refusal_row(heap, &fault)?,
+    };
+    format!(in heap; "other {row}")
 }
 
 /// Opens an entry on the tables, performs the steps on it, and writes what each answers. Where the tables are refused there is no entry to call.
 pub(crate) fn perform<W: WidthText, M: Measure<Width = W> + Drop>(
     heap: Global,
-    text: Option<&str>,
-    head: Head,
+    head: Head<'_>,
     measure: M,
     steps: &[Step<W>],
 ) -> Result<String, AllocError> {
-    let Head {
-        text: _,
-        own,
-        other,
-        has_other,
-        filling: _,
-    } = head;
-    let RawTables {
-        glyphs,
-        words,
-        spans,
-        ellipsis,
-        direction,
-    } = own;
-    let mut out = opened_row(heap, glyphs.len(), words.len(), spans.len())?;
+    let Head { text, own, other } = head;
+    let mut out = granted_row(heap, &own)?;
     // without a line that says otherwise, the lists have room for every line
-    let places = spans.len().saturating_add(2);
-    let mut paragraphs = Paragraphs {
-        own: Paragraph::empty(heap),
-        other: Paragraph::empty(heap),
-        lent: Lent::Own,
-    };
-    let own = &mut paragraphs.own;
-    let mut entry = match Entry::open(own, glyphs, words, spans, ellipsis, direction, measure) {
+    let places = own.spans.len().saturating_add(2);
+    let mut paragraphs = Paragraphs::empty(heap);
+    let entry = match Entry::open(&mut paragraphs.own, own, measure) {
         Ok(entry) => entry,
-        Err(fault) => return entry_refusal(heap, fault),
+        Err(fault) => return refusal_row(heap, &fault),
     };
-    if has_other {
+    if let Some(other) = other {
         out.push_str(fill_other(heap, &mut paragraphs.other, other)?.as_str())?;
     }
-    perform_steps(
+    let lists = Lists::new(heap, places, places)?;
+    let mut session = Session {
         heap,
-        &mut out,
         text,
-        &mut entry,
-        &mut paragraphs,
-        places,
-        steps,
-    )?;
+        entry,
+        paragraphs,
+        lists,
+    };
+    for step in steps {
+        out.push_str(session.step(*step)?.as_str())?;
+    }
     Ok(out)
 }

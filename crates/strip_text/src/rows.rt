@@ -8,16 +8,16 @@ use paragraph::word::Word;
 
 /// A line of the head.
 #[derive(Clone, Copy)]
-pub(crate) enum HeadLine {
-    /// The paragraph's text stands behind the first field.
-    Text,
+pub(crate) enum HeadLine<'a> {
+    /// The paragraph's text.
+    Text(&'a str),
     /// Rows of the paragraph's own tables follow.
     Paragraph(Direction),
     /// Rows of another paragraph's tables follow.
     Other(Direction),
     Row(RawRow),
-    /// The measure's name stands behind the first field; calls follow.
-    Measure,
+    /// The measure's name; calls follow.
+    Measure(&'a str),
 }
 
 /// A row of a table, with any numbers.
@@ -29,73 +29,61 @@ pub(crate) enum RawRow {
     Ellipsis(Glyph),
 }
 
-const USIZE_MOST: usize = 18_446_744_073_709_551_615;
-
 fn read_direction(fields: &mut Fields<'_>) -> Result<Direction, LineCause> {
-    let direction = match fields.next_field() {
-        Some("ltr") => Direction::LeftToRight,
-        Some("rtl") => Direction::RightToLeft,
-        _ => return fields.no_choice(Choices::Direction),
-    };
-    fields.end()?;
-    Ok(direction)
+    fields.choice(Choices::Direction, |word| match word {
+        "ltr" => Some(Direction::LeftToRight),
+        "rtl" => Some(Direction::RightToLeft),
+        _ => None,
+    })
 }
 
 fn read_glyph(fields: &mut Fields<'_>) -> Result<Glyph, LineCause> {
-    let start = fields.short()?;
-    let end = fields.short()?;
-    let advance = fields.float()?;
-    let size = fields.float_or_none()?;
-    let units = fields.short()?;
-    let cells = fields.byte()?;
-    fields.end()?;
     Ok(Glyph {
-        start,
-        end,
-        advance,
-        size,
-        units,
-        cells,
+        start: fields.number()?,
+        end: fields.number()?,
+        advance: fields.float()?,
+        size: fields.or_none(|fields| fields.float())?,
+        units: fields.number()?,
+        cells: fields.number()?,
     })
 }
 
 fn read_word(fields: &mut Fields<'_>) -> Result<Word, LineCause> {
-    let blank = match fields.next_field() {
-        Some("blank") => true,
-        Some("text") => false,
-        _ => return fields.no_choice(Choices::Word),
-    };
-    let offset = fields.number(USIZE_MOST)?;
-    let len = fields.number(USIZE_MOST)?;
-    fields.end()?;
-    Ok(Word { blank, offset, len })
+    let blank = fields.choice(Choices::Word, |word| match word {
+        "blank" => Some(true),
+        "text" => Some(false),
+        _ => None,
+    })?;
+    Ok(Word {
+        blank,
+        offset: fields.number()?,
+        len: fields.number()?,
+    })
 }
 
 fn read_span(fields: &mut Fields<'_>) -> Result<Span, LineCause> {
-    let level = fields.byte()?;
-    let offset = fields.number(USIZE_MOST)?;
-    let len = fields.number(USIZE_MOST)?;
-    fields.end()?;
-    Ok(Span { level, offset, len })
+    Ok(Span {
+        level: fields.number()?,
+        offset: fields.number()?,
+        len: fields.number()?,
+    })
 }
 
 /// Reads a line of the head.
-pub(crate) fn read_head_line(line: &str) -> Result<HeadLine, LineCause> {
+pub(crate) fn read_head_line(line: &str) -> Result<HeadLine<'_>, LineCause> {
     let mut fields = Fields::of(line);
-    match fields.next_field() {
-        Some("text") => Ok(HeadLine::Text),
-        Some("paragraph") => Ok(HeadLine::Paragraph(read_direction(&mut fields)?)),
-        Some("other") => Ok(HeadLine::Other(read_direction(&mut fields)?)),
-        Some("glyph") => Ok(HeadLine::Row(RawRow::Glyph(read_glyph(&mut fields)?))),
-        Some("word") => Ok(HeadLine::Row(RawRow::Word(read_word(&mut fields)?))),
-        Some("span") => Ok(HeadLine::Row(RawRow::Span(read_span(&mut fields)?))),
-        Some("ellipsis") => Ok(HeadLine::Row(RawRow::Ellipsis(read_glyph(&mut fields)?))),
-        Some("measure") => Ok(HeadLine::Measure),
-        Some("take") => Err(LineCause::NoMeasureYet),
-        Some("close") => Err(LineCause::NoMeasureYet),
-        Some("tally") => Err(LineCause::NoMeasureYet),
-        Some("lists") => Err(LineCause::NoMeasureYet),
-        Some("lend") => Err(LineCause::NoMeasureYet),
-        _ => Err(LineCause::Strange),
-    }
+    let read = match fields.next_field() {
+        Some("text") => return Ok(HeadLine::Text(fields.rest())),
+        Some("measure") => return Ok(HeadLine::Measure(fields.rest())),
+        Some("paragraph") => HeadLine::Paragraph(read_direction(&mut fields)?),
+        Some("other") => HeadLine::Other(read_direction(&mut fields)?),
+        Some("glyph") => HeadLine::Row(RawRow::Glyph(read_glyph(&mut fields)?)),
+        Some("word") => HeadLine::Row(RawRow::Word(read_word(&mut fields)?)),
+        Some("span") => HeadLine::Row(RawRow::Span(read_span(&mut fields)?)),
+        Some("ellipsis") => HeadLine::Row(RawRow::Ellipsis(read_glyph(&mut fields)?)),
+        Some("take" | "close" | "tally" | "lists" | "lend") => return Err(LineCause::NoMeasureYet),
+        _ => return Err(LineCause::Strange),
+    };
+    fields.end()?;
+    Ok(read)
 }

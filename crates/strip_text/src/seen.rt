@@ -24,21 +24,12 @@ fn range_seen(
     if range.span.is_none() {
         return String::from_str(heap, "…");
     }
-    let glyphs = glyphs_of_range(tables, range);
-    let mut seen = String::new(heap);
+    let glyphs = glyphs_of_range(tables, range).iter();
+    let seen = glyphs.map(|glyph| glyph_text(text, *glyph));
     match tables.direction {
-        Direction::LeftToRight => {
-            for glyph in glyphs {
-                seen.push_str(glyph_text(text, *glyph))?;
-            }
-        }
-        Direction::RightToLeft => {
-            for glyph in glyphs.iter().rev() {
-                seen.push_str(glyph_text(text, *glyph))?;
-            }
-        }
+        Direction::LeftToRight => seen.collect(heap),
+        Direction::RightToLeft => seen.rev().collect(heap),
     }
-    Ok(seen)
 }
 
 /// A line's ranges in visual order.
@@ -50,11 +41,9 @@ pub(crate) fn seen_row(
     order: &[usize],
 ) -> Result<String, AllocError> {
     let mut row = String::from_str(heap, "seen: ")?;
-    for i in order {
-        if let Some(range) = ranges.get(*i) {
-            let seen = range_seen(heap, text, tables, *range)?;
-            row.push_str(seen.as_str())?;
-        }
+    for range in order.iter().filter_map(|i| ranges.get(*i)) {
+        let seen = range_seen(heap, text, tables, *range)?;
+        row.push_str(seen.as_str())?;
     }
     row.push_str("\n")?;
     Ok(row)

@@ -1,10 +1,10 @@
 // Widths as text.
 ghost use Rattle.std.specs.Prelude.{ℕ, List, Option};
-ghost use Rattle.strip_text.specs.Fields.{Writes, ReadsFloat};
+ghost use Rattle.std.specs.Option.{option_map};
+ghost use Rattle.strip_text.specs.Fields.{NextSays, Writes, ReadsFloat};
 
 use crate::fault::LineCause;
 use crate::fields::Fields;
-use crate::numbers::{read_float, read_u32};
 use std::alloc::{AllocError, Global};
 use std::num::f32_to_bits_with_nan;
 
@@ -12,12 +12,9 @@ use std::num::f32_to_bits_with_nan;
 pub(crate) trait WidthText: Copy {
     ghost said_by: { List ℕ → Option Self → Type 0 };
 
-    /// The width that a field says.
-    fn read_width(field: &str) -> Option<Self>
-        ensures { said_by field.now result };
-
-    /// What is said of a field that says no width.
-    fn no_width(field: usize) -> LineCause;
+    /// The width that the next field says.
+    fn read_width(fields: &mut Fields<'_>) -> Result<Self, LineCause>
+        ensures { NextSays said_by (option_map (λ x. x.now) fields.old.left) result (option_map (λ x. x.now) fields.new.left) };
 
     fn write_width(self, heap: Global) -> Result<String, AllocError>;
 }
@@ -26,15 +23,8 @@ pub(crate) trait WidthText: Copy {
 impl WidthText for u32 {
     ghost said_by = { Writes 4294967295 };
 
-    fn read_width(field: &str) -> Option<u32> {
-        read_u32(field)
-    }
-
-    fn no_width(field: usize) -> LineCause {
-        LineCause::NoNumber {
-            field,
-            most: 4_294_967_295,
-        }
+    fn read_width(fields: &mut Fields<'_>) -> Result<u32, LineCause> {
+        fields.number()
     }
 
     fn write_width(self, heap: Global) -> Result<String, AllocError> {
@@ -46,12 +36,8 @@ impl WidthText for u32 {
 impl WidthText for f32 {
     ghost said_by = { ReadsFloat };
 
-    fn read_width(field: &str) -> Option<f32> {
-        read_float(field)
-    }
-
-    fn no_width(field: usize) -> LineCause {
-        LineCause::NoFloat { field }
+    fn read_width(fields: &mut Fields<'_>) -> Result<f32, LineCause> {
+        fields.float()
     }
 
     fn write_width(self, heap: Global) -> Result<String, AllocError> {

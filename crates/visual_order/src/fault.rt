@@ -1,25 +1,25 @@
 // Why no order is written: a cause, a row and a table.
 ghost use Rattle.visual_order.specs.Cause.{cause_number};
-ghost use Rattle.std.specs.Prelude.{◌≡◌};
+ghost use Rattle.visual_order.specs.Tables.{table_name};
+ghost use Rattle.std.specs.Prelude.{Some};
+
+use refusals::{Cause, Fault};
+use std::fmt;
 
 /// What is wrong.
 #[derive(Clone, Copy, PartialEq, Eq, Debug)]
 pub enum OrderCause {
     /// A table has more rows than are allowed.
-    TooManyRows,
+    TooManyRows = 1,
     /// A list that is to be written has fewer places than it needs.
-    ListTooShort,
+    ListTooShort = 9,
 }
 
-impl OrderCause {
-    /// The number by which a refusal is known: 1 for too many rows, 9 for a list that is too short.
-    pub fn number(self) -> usize
-        ensures { result ≡ cause_number self }
-    {
-        match self {
-            OrderCause::TooManyRows => 1,
-            OrderCause::ListTooShort => 9,
-        }
+impl Cause for OrderCause {
+    ghost number_of = { cause_number };
+
+    fn number(self) -> u8 {
+        self as u8
     }
 }
 
@@ -32,10 +32,16 @@ pub enum OrderTable {
     Order,
 }
 
-/// A refusal. The row is the one after the last good one.
-#[derive(Clone, Copy, PartialEq, Eq, Debug)]
-pub struct OrderFault {
-    pub cause: OrderCause,
-    pub row: usize,
-    pub table: OrderTable,
+impl fmt::Display for OrderTable {
+    ghost output = { λ t. Some (table_name t) };
+
+    fn fmt<W: fmt::Write>(&self, f: &mut fmt::Formatter<W>) -> fmt::Result {
+        f.write_str(match self {
+            OrderTable::Elements => "elements",
+            OrderTable::Order => "order",
+        })
+    }
 }
+
+/// A refusal. The row is the one after the last good one.
+pub type OrderFault = Fault<OrderCause, OrderTable>;

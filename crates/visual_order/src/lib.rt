@@ -21,4 +21,5 @@ pub use character::Character;
 pub use fault::{OrderCause, OrderFault, OrderTable};
 pub use laws::order_laws;
 pub use leveled::Leveled;
+pub use refusals::Cause;
 pub use reordering::reorder;

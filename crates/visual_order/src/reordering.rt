@@ -17,22 +17,23 @@ const MOST_ELEMENTS: usize = 16384;
 fn number_places(line: &mut [usize])
     ensures { line.new ≡ range_with_len 0 (length line.old) }
 {
-    for i in 0..line.len() {
-        line[i] = i;
+    for (i, place) in line.iter_mut().enumerate() {
+        *place = i;
     }
 }
 
-// Writes the visual order of the elements to a line of the same length. The level counts down to a `u16`'s 0 from above 255,
-// so that every `u8` is a level.
+// Writes the visual order of the elements to a line of the same length.
 fn arrange<E: Leveled>(elements: &[E], line: &mut [usize])
     requires { length line.old ≡ length elements.now }
     ensures { line.new ≡ visual (map E.Leveled.depth elements.now) }
 {
     number_places(line);
-    let top = u16::from(highest_level(elements)) + 1;
-    let low = lowest_odd_level(elements, top);
-    for k in (low..top).rev() {
-        reverse_runs(elements, line, k);
+    let Some(low) = lowest_odd_level(elements) else {
+        return;
+    };
+    let top = highest_level(elements).unwrap();
+    for level in (low..=top).rev() {
+        reverse_runs(elements, line, level);
     }
 }
 
@@ -63,6 +64,6 @@ pub fn reorder<E: Leveled>(elements: &[E], order: &mut [usize]) -> Result<(), Or
             table: OrderTable::Order,
         });
     }
-    arrange(elements, &mut order[0..n]);
+    arrange(elements, &mut order[..n]);
     Ok(())
 }

@@ -8,33 +8,33 @@ ghost use Rattle.visual_order.specs.VisualOrder.{high, turned};
 
 use crate::leveled::Leveled;
 
-// Where the run of elements at the level `k` or higher that begins at `start` ends.
-fn run_end<E: Leveled>(elements: &[E], k: u16, start: usize) -> usize
+// Where the run of elements at the level or higher that begins at `start` ends.
+fn run_end<E: Leveled>(elements: &[E], level: u8, start: usize) -> usize
     requires { start ≤ length elements.now }
     ensures after { (start ≤ result) × (result ≤ length elements.now) }
-    ensures inside { (p : ℕ) → start ≤ p → p < result → high (map E.Leveled.depth elements.now) k p ≡ true }
-    ensures stops { result < length elements.now → high (map E.Leveled.depth elements.now) k result ≡ false }
+    ensures inside { (p : ℕ) → start ≤ p → p < result → high (map E.Leveled.depth elements.now) level p ≡ true }
+    ensures stops { result < length elements.now → high (map E.Leveled.depth elements.now) level result ≡ false }
 {
-    let mut end = start;
-    while end < elements.len() {
-        if u16::from(elements[end].level()) < k {
+    // Over the indices: where text is nested, `position` takes up to twice as long.
+    for end in start..elements.len() {
+        if elements[end].level() < level {
             return end;
         }
-        end += 1;
     }
-    end
+    elements.len()
 }
 
-// Reverses each longest run of elements at the level `k` or higher in the line, whose places are at that level just where
+// Reverses each longest run of elements at the level or higher in the line, whose places are at that level just where
 // the elements are.
-pub(crate) fn reverse_runs<E: Leveled>(elements: &[E], line: &mut [usize], k: u16)
+pub(crate) fn reverse_runs<E: Leveled>(elements: &[E], line: &mut [usize], level: u8)
     requires as_long { length line.old ≡ length elements.now }
-    requires in_place { (p : ℕ) → p < length line.old → high (map E.Leveled.depth elements.now) k (slice_index line.old p) ≡ high (map E.Leveled.depth elements.now) k p }
-    ensures { line.new ≡ turned (high (map E.Leveled.depth elements.now) k) [] line.old }
+    requires in_place { (p : ℕ) → p < length line.old → high (map E.Leveled.depth elements.now) level (slice_index line.old p) ≡ high (map E.Leveled.depth elements.now) level p }
+    ensures { line.new ≡ turned (high (map E.Leveled.depth elements.now) level) [] line.old }
 {
     let mut start = 0;
+    // One pass by `enumerate` takes half as long again, and a `for` over `elements.split(..)` gets no proof, since its closure calls a bound's method.
     while start < line.len() {
-        let end = run_end(elements, k, start);
+        let end = run_end(elements, level, start);
         line[start..end].reverse();
         start = end + 1;
     }

@@ -11,7 +11,7 @@ use Rattle.paragraph.specs.declared.span.Span.{Span}
 use Rattle.walk.specs.Inside.{Inside}
 use Rattle.walk.specs.Parts.{words_in}
 use Rattle.walk.specs.Widths.{ahead_of}
-use Rattle.walk.proofs.Tables.{word_ends, span_ends}
+use Rattle.paragraph.proofs.Growth.{word_ends_within, span_ends_within}
 
 -- a position that exists names a span, or stands at the end of a paragraph without any
 pub span_named : (t : Text) (p : Position) → exists t p ≡ true → p.span ≤ length t.spans
@@ -29,20 +29,20 @@ module _ (t : Text) (sound : Sound t) (s : ℕ) where
   whole_inside : Inside t (span_at t s) (whole (span_at t s)) 0 (words_in (whole (span_at t s)))
   whole_inside =
       record {
-        there = omega (arith, span_ends t sound s);
+        there = omega (arith, span_ends_within t sound s);
         low_high = λ w l h. grind (arith, nat_tests);
         high_len = λ w l h. grind (arith, nat_tests);
-        within = λ w l h. word_ends t sound ((span_at t s).offset + w);
+        within = λ w l h. word_ends_within t sound ((span_at t s).offset + w);
       }
 
   module _ (c : Place) (word_in : c.word ≤ (span_at t s).len) (glyph_in : c.glyph ≤ glyphs_of_word t (span_at t s) c.word) where
     after_inside : Inside t (span_at t s) (between c (edge (span_at t s).len)) c.word (words_in (between c (edge (span_at t s).len)))
     after_inside =
         record {
-          there = omega (arith, span_ends t sound s);
+          there = omega (arith, span_ends_within t sound s);
           low_high = λ w l h. grind (arith, nat_tests);
           high_len = λ w l h. grind (arith, nat_tests);
-          within = λ w l h. word_ends t sound ((span_at t s).offset + w);
+          within = λ w l h. word_ends_within t sound ((span_at t s).offset + w);
         }
 
     ends : words_in (between (edge 0) c) ≤ (span_at t s).len
@@ -51,10 +51,10 @@ module _ (t : Text) (sound : Sound t) (s : ℕ) where
     before_inside : Inside t (span_at t s) (between (edge 0) c) 0 (words_in (between (edge 0) c))
     before_inside =
         record {
-          there = omega (arith, ends, span_ends t sound s);
+          there = omega (arith, ends, span_ends_within t sound s);
           low_high = λ w l h. grind (arith, nat_tests);
           high_len = λ w l h. grind (arith, nat_tests);
-          within = λ w l h. word_ends t sound ((span_at t s).offset + w);
+          within = λ w l h. word_ends_within t sound ((span_at t s).offset + w);
         }
 
 module _ (t : Text) (p : Position) (s : ℕ) (sound : Sound t) (e : exists t p ≡ true) (h : s < length t.spans) where
@@ -75,11 +75,6 @@ module _ (t : Text) (p : Position) (s : ℕ) (sound : Sound t) (e : exists t p �
   module _ (sp : Span) (sp_is : sp ≡ span_at t s) (a : Stretch) (a_is : a ≡ ahead_in t.direction p s sp) where
     pub stretch_is : a ≡ ahead_of t p s
     stretch_is = a_is ∙ ap (ahead_in t.direction p s) sp_is
-
-    pub end_small : a.end.word ≤ 4096
-    end_small =
-        let few : (span_at t s).len ≤ 4096 = omega (arith, span_ends t sound s, sound.few_words) in
-        subst (λ (b : Stretch). b.end.word ≤ 4096) (sym stretch_is) (each_way (λ b. b.end.word ≤ 4096) few (λ c w g. (few, omega arith)))
 
     pub ahead_inside : (n : ℕ) → n ≡ words_in a → Inside t sp a a.start.word n
     ahead_inside n n_is =

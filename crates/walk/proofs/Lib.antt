@@ -1,4 +1,3 @@
-pub mod Tables
 pub mod Aheads
 pub mod Orders
 pub mod Sums

@@ -1,10 +1,12 @@
--- What a walk takes lies in what was left
-use Rattle.std.proofs.Common.{◌≡◌, ℕ, suc, ◌+◌, ◌≤◌, Bool, true, false, arith}
-use Rattle.paragraph.specs.Text.{Text}
+-- What a walk visits lies in what was left
+use Rattle.std.proofs.Common.{◌≡◌, ℕ, suc, ◌+◌, ◌<◌, ◌≤◌, Bool, true, false, arith}
 use Rattle.paragraph.specs.declared.place.Stretch.{Stretch}
+use Rattle.paragraph.specs.Text.{Text}
 use Rattle.paragraph.specs.declared.span.Span.{Span}
-use Rattle.walk.specs.Inside.{Inside}
+use Rattle.walk.specs.Inside.{Inside, Reaches, ReachesAll}
 use Rattle.walk.specs.Parts.{next, later}
+use Rattle.walk.specs.Places.{Follows}
+use Rattle.walk.specs.declared.places.Places.{Places}
 
 pub next_in : (up : Bool) (at n : ℕ) → (at ≤ next up at n) × (next up at n ≤ at + n)
 next_in true at n = (omega arith, omega arith)
@@ -14,9 +16,28 @@ pub later_in : (up : Bool) (at : ℕ) → (at ≤ later up at) × (later up at �
 later_in true at = (omega arith, omega arith)
 later_in false at = (omega arith, omega arith)
 
+-- the place that is visited, and those that are left then
+module _ {s t : Places} {w : ℕ} (f : Follows s t w) where
+  pub visited : (s.first ≤ w) × (w < s.first + s.count)
+  visited =
+      let o = next_in s.up s.first t.count in
+      (omega (arith, o.0, f.place), omega (arith, o.1, f.place, f.counts))
+
+  pub left : (s.first ≤ t.first) × (t.first + t.count ≤ s.first + s.count)
+  left =
+      let o = later_in s.up s.first in
+      (omega (arith, o.0, f.later_first), omega (arith, o.1, f.later_first, f.counts))
+
+  module _ (a : Stretch) (all : ReachesAll a s) where
+    pub word_reached : Reaches a w
+    word_reached = (omega (arith, all.0, visited.0), omega (arith, all.1, visited.1))
+
+    pub rest_reached : ReachesAll a t
+    rest_reached = (omega (arith, all.0, left.0), omega (arith, all.1, left.1))
+
 module _ (t : Text) (sp : Span) (a : Stretch) (at n : ℕ) (inside : Inside t sp a at n) where
   -- some of the words
-  pub inside_some : (l j : ℕ) → at ≤ l → l + j ≤ at + n → Inside t sp a l j
+  inside_some : (l j : ℕ) → at ≤ l → l + j ≤ at + n → Inside t sp a l j
   inside_some l j lo hi =
       record {
         there = omega (arith, inside.there);

@@ -1,58 +1,57 @@
 -- One span more of a walk, and the ends
-use Rattle.std.proofs.Common.{◌≡◌, ℕ, zero, suc, ◌+◌, ◌-◌, ◌*◌, ◌<◌, ◌≤◌, Bool, true, false, List, [], ◌++◌, length, drop, sym, ap, ◌∙◌, arith}
+use Rattle.std.proofs.Common.{◌≡◌, ℕ, suc, ◌+◌, ◌-◌, ◌*◌, ◌≤◌, Bool, true, false, List, [], ◌++◌, length, drop, sym, ap, ◌∙◌, arith}
 use Rattle.std.proofs.lemmas.Bool.{cond-true, cond-false}
 use Rattle.measure.specs.declared.measure.Measure.{Ghosts}
-use Rattle.paragraph.specs.Reading.{ahead_in, exists}
+use Rattle.paragraph.specs.Reading.{exists}
 use Rattle.paragraph.specs.Text.{Text, Sound, span_at}
 use Rattle.paragraph.specs.declared.place.Position.{Position}
-use Rattle.paragraph.specs.declared.place.Stretch.{Stretch}
 use Rattle.paragraph.specs.declared.span.Span.{Span}
-use Rattle.walk.specs.Inside.{Inside}
-use Rattle.walk.specs.Parts.{forward, goes_up, later, next, words_in}
+use Rattle.paragraph.specs.Aheads.{text_at}
+use Rattle.walk.specs.Parts.{forward, goes_up, later, next}
 use Rattle.walk.specs.Steps.{as_part, counted, put_at, range_at}
-use Rattle.walk.specs.Walk.{Lay, Part, in_span, kept, part_of, told, walks, with_part}
+use Rattle.walk.specs.Walk.{Lay, Part, kept, nothing, part_of, told, walks, with_part}
 use Rattle.walk.specs.declared.line.LayoutDirection.{LayoutDirection}
 use Rattle.walk.specs.declared.line.Rule.{Rule}
 use Rattle.walk.specs.declared.line.VlRange.{VlRange}
 use Rattle.walk.specs.declared.line.Walked.{Walked}
 use Rattle.walk.specs.declared.span_part.SpanPart.{SpanPart}
-use Rattle.walk.proofs.Aheads.{ahead_inside, span_named}
-use Rattle.walk.proofs.Orders.{later_in, next_in}
-use Rattle.walk.proofs.Progress.{AtSpan, WalkedAll, as_lay}
+use Rattle.walk.specs.Widths.{ahead_of}
+use Rattle.walk.specs.declared.places.Places.{Places}
+use Rattle.walk.specs.declared.span_ahead.SpanAhead.{SpanAhead}
+use Rattle.walk.proofs.Aheads.{span_named}
+use Rattle.walk.proofs.Orders.{later_in}
+use Rattle.walk.proofs.Progress.{AtSpan, WalkedAll, all_of, as_lay}
 use Rattle.walk.proofs.Puts.{counted_kept, counted_le, put_kept}
 
 module _ {S W : Type 0} (k : Ghosts S W) (m : S) (t : Text) (p : Position) (rule : Rule W) (way : LayoutDirection) (sound : Sound t) (stands : exists t p ≡ true) where
   -- before the first span
-  pub starts : (out : List VlRange) (line : Walked W) → line ≡ record { ranges = 0; blanks = 0; laid = 0; width = k.nil_of m; flagged = false } → AtSpan k m t p rule way out out line p.span (length t.spans - p.span)
-  starts out line is =
+  pub starts : (out : List VlRange) (line : Walked W) {at n : ℕ} → at ≡ p.span → n ≡ length t.spans - p.span → line ≡ record { ranges = 0; blanks = 0; laid = 0; width = k.NIL; flagged = false } → AtSpan k m t p rule way out out line at n
+  starts out line {at} {n} at_is n_is is =
       record {
         ranges = [];
         counts = sym (ap (λ (l : Walked W). l.ranges) is);
-        goes = ap (λ (l : Walked W). walks k m t p rule way (as_lay [] l) p.span (length t.spans - p.span)) is;
+        goes = ap (λ (l : Walked W). walks k m t p rule way (as_lay [] l) at n) is ∙ ap (λ (i : ℕ). walks k m t p rule way (nothing k m t p rule) i n) at_is ∙ ap (walks k m t p rule way (nothing k m t p rule) p.span) n_is;
         written = λ h. sym (ap (λ (l : Walked W). drop l.ranges out) is);
-        there = omega (arith, span_named t p stands);
-        few = omega (arith, ap (λ (l : Walked W). l.ranges) is);
-        blanks = omega (arith, ap (λ (l : Walked W). l.blanks) is, sound.few_spans);
-        laid = omega (arith, ap (λ (l : Walked W). l.laid) is, sound.few_spans);
+        there = omega (arith, at_is, n_is, span_named t p stands);
+        few = omega (arith, n_is, ap (λ (l : Walked W). l.ranges) is);
+        blanks = omega (arith, n_is, ap (λ (l : Walked W). l.blanks) is, sound.few_spans);
+        laid = omega (arith, n_is, ap (λ (l : Walked W). l.laid) is, sound.few_spans);
         unflagged = ap (λ (l : Walked W). l.flagged) is;
       }
 
   -- after the last span
-  pub walked_through : (before after : List VlRange) (line : Walked W) (at n : ℕ) → n ≤ 0 → AtSpan k m t p rule way before after line at n → WalkedAll k m t p rule way before after line
-  walked_through before after line at zero h here =
+  pub walked_through : {before after : List VlRange} {line : Walked W} {at n : ℕ} → n ≡ 0 → AtSpan k m t p rule way before after line at n → WalkedAll k m t p rule way before after line
+  walked_through {before} {line = line} {at} {n} none here =
+      let all = ap (walks k m t p rule way (as_lay here.ranges line) at) (sym none) ∙ here.goes in
       record {
-        tells = ap (λ (i : ℕ). record { ranges = i; blanks = line.blanks; laid = line.laid; width = line.width; flagged = line.flagged }) (sym here.counts) ∙ ap told here.goes;
+        tells = ap (λ (i : ℕ). record { ranges = i; blanks = line.blanks; laid = line.laid; width = line.width; flagged = line.flagged }) (sym here.counts) ∙ ap told all;
         few = omega (arith, here.few);
-        written = λ r. here.written r ∙ ap (λ (l : Lay W). l.ranges ++ drop line.ranges before) here.goes;
+        written = λ r. here.written r ∙ ap (λ (l : Lay W). l.ranges ++ drop line.ranges before) all;
       }
-  walked_through before after line at (suc n) h here = absurd (omega arith)
 
   -- at the span s, of which `a` is ahead, and then the j spans from f on
   module _ {before after : List VlRange} {line : Walked W} {at n s f j : ℕ} {fw : Bool} {sp : Span} (here : AtSpan k m t p rule way before after line at n)
       (n_is : n ≡ suc j) (fw_is : fw ≡ forward way) (s_is : s ≡ next fw at j) (f_is : f ≡ later fw at) (sp_is : sp ≡ span_at t s) where
-    pub span_there : s < length t.spans
-    span_there = omega (arith, here.there, (next_in fw at j).1)
-
     pub later_there : f + j ≤ length t.spans
     later_there = omega (arith, here.there, (later_in fw at).1)
 
@@ -77,19 +76,9 @@ module _ {S W : Type 0} (k : Ghosts S W) (m : S) (t : Text) (p : Position) (rule
         ap (λ (i : ℕ). walks k m t p rule way l at i) n_is ∙ whole ∙ ap (λ (y : Part W). with_part k m t p rule l s y) (sym q_is)
 
     -- what is laid of it, by the names that the walk has for its parts
-    module _ {a : Stretch} {up : Bool} {c : ℕ} (a_is : a ≡ ahead_in t.direction p s sp) (up_is : up ≡ goes_up t.direction sp way) (c_is : c ≡ words_in a) where
-      pub span_inside : Inside t sp a a.start.word c
-      span_inside = ahead_inside t p s sound stands span_there sp sp_is a a_is c c_is
-
-      pub few_here : c ≤ 4096
-      few_here = omega (arith, span_inside.there, sound.few_words)
-
-      pub part_is : in_span k m t p rule sp a up f j line.width (k.nil_of m) line.blanks line.laid a.start.word c ≡ part_of k m t p rule way (as_lay [] line) s f j
-      part_is =
-          ap (λ (i : ℕ). in_span k m t p rule sp a up f j line.width (k.nil_of m) line.blanks line.laid a.start.word i) c_is
-          ∙ ap (λ (u : Bool). in_span k m t p rule sp a u f j line.width (k.nil_of m) line.blanks line.laid a.start.word (words_in a)) up_is
-          ∙ ap (λ (b : Stretch). in_span k m t p rule sp b (goes_up t.direction sp way) f j line.width (k.nil_of m) line.blanks line.laid b.start.word (words_in b)) a_is
-          ∙ ap (λ (z : Span). in_span k m t p rule z (ahead_in t.direction p s z) (goes_up t.direction z way) f j line.width (k.nil_of m) line.blanks line.laid (ahead_in t.direction p s z).start.word (words_in (ahead_in t.direction p s z))) sp_is
+    pub part_is : (own : SpanAhead) (spans : Places) {up : Bool} → text_at own.ahead ≡ t → own.ahead.position ≡ p → own.span ≡ sp → own.stretch ≡ ahead_of t p s → up ≡ goes_up t.direction own.span way → spans.first ≡ f → spans.count ≡ j →
+        all_of k m rule own up line spans ≡ part_of k m t p rule way (as_lay [] line) s f j
+    part_is own spans {up} t_is p_is own_is a_is up_is first_is count_is = rw (t_is, p_is, a_is, up_is, own_is, sp_is, first_is, count_is)
 
     -- The line with what was laid of it
     module _ {q : SpanPart W} {line2 : Walked W} {out2 : List VlRange} (q_is : as_part q ≡ part_of k m t p rule way (as_lay [] line) s f j)

@@ -5,3 +5,4 @@ pub mod Fit
 pub mod Walk
 pub mod Steps
 pub mod Whole
+pub mod Places

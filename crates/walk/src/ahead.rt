@@ -1,26 +1,20 @@
-// The words of a stretch, each word's part in it, and the order in which a walk meets them.
-ghost use Rattle.std.specs.Prelude.{◌≡◌, ℕ, ◌+◌, ◌-◌, ◌^◌, ◌<◌, ◌≤◌, length};
-ghost use Rattle.paragraph.specs.Text.{Sound, word_at, span_at};
-ghost use Rattle.walk.specs.Inside.{Inside};
+// What is ahead of a position, span by span, and which way a walk meets it.
+ghost use Rattle.paragraph.specs.Aheads.{text_at};
 ghost use Rattle.paragraph.specs.Lent.{lent};
-ghost use Rattle.walk.specs.Parts.{forward, goes_up, high, low, next, later, part_size, words_in};
+ghost use Rattle.paragraph.specs.Text.{span_at};
+ghost use Rattle.std.specs.Prelude.{◌≡◌, ◌-◌, ◌<◌, length};
+ghost use Rattle.walk.specs.Parts.{forward, goes_up};
+ghost use Rattle.walk.specs.Widths.{ahead_of};
 
 use crate::line::LayoutDirection;
+use crate::places::Places;
+use crate::span_ahead::SpanAhead;
+use paragraph::ahead::Ahead;
 use paragraph::direction::Direction;
-use paragraph::place::Stretch;
 use paragraph::span::Span;
 use paragraph::tables::Tables;
-use paragraph::word::Word;
 
-/// The row `i` of the table of words.
-pub fn word_at(tables: Tables<'_>, i: usize) -> Word
-    requires { i < length tables.words.now }
-    ensures { result ≡ word_at (lent tables.entry) i }
-{
-    tables.words[i]
-}
-
-/// The row `s` of the table of spans.
+/// The row `s` of the table of spans, without the test of `Tables::span_at`, which a walk does not need.
 pub fn span_at(tables: Tables<'_>, s: usize) -> Span
     requires { s < length tables.spans.now }
     ensures { result ≡ span_at (lent tables.entry) s }
@@ -28,49 +22,35 @@ pub fn span_at(tables: Tables<'_>, s: usize) -> Span
     tables.spans[s]
 }
 
-/// How many words have a part in a stretch.
-pub fn words_in(stretch: Stretch) -> usize
-    requires { stretch.end.word + 1 < 2 ^ 64 }
-    ensures { result ≡ words_in stretch }
+/// The spans from the position's own on.
+pub fn spans_of(ahead: Ahead<'_>, up: bool) -> Places
+    ensures up { result.up ≡ up }
+    ensures first { result.first ≡ ahead.entry.position.span }
+    ensures count { result.count ≡ length (text_at ahead.entry).spans - ahead.entry.position.span }
 {
-    let end = if stretch.end.glyph > 0 {
-        stretch.end.word + 1
-    } else {
-        stretch.end.word
-    };
-    if end > stretch.start.word {
-        end - stretch.start.word
-    } else {
-        0
+    let first = ahead.position.span;
+    Places {
+        up,
+        first,
+        count: ahead.tables.rows.spans.len() - first,
     }
 }
 
-/// The part of the word `w`, of `len` glyphs, that is in a stretch: its first glyph, and the one after its last.
-pub fn part_in(stretch: Stretch, w: usize, len: usize) -> (usize, usize)
-    ensures { result ≡ (low stretch w, high stretch w len) }
+/// What is ahead in the span `s`, which is the position's own or a later one.
+pub fn in_span(ahead: Ahead<'_>, s: usize) -> SpanAhead<'_>
+    requires { s < length (text_at ahead).spans }
+    ensures ahead { result.ahead ≡ ahead.entry }
+    ensures span { result.span ≡ span_at (text_at ahead.entry) s }
+    ensures stretch { result.stretch ≡ ahead_of (text_at ahead.entry) ahead.entry.position s }
 {
-    let start = if w == stretch.start.word {
-        stretch.start.glyph
-    } else {
-        0
-    };
-    let end = if w == stretch.end.word {
-        stretch.end.glyph
-    } else {
-        len
-    };
-    (start, end)
-}
-
-/// How many glyphs the part of the word `w` of a span has that is in a stretch.
-pub fn part_size(tables: Tables<'_>, span: Span, stretch: Stretch, w: usize) -> usize
-    requires sound { Sound (lent tables) }
-    requires inside { Inside (lent tables) span stretch w 1 }
-    ensures { result ≡ part_size stretch w (word_at (lent tables.entry) (span.offset + w)) }
-{
-    let word = word_at(tables, span.offset + w);
-    let (start, end) = part_in(stretch, w, word.len);
-    end - start
+    let rows = ahead.tables.rows;
+    let span = span_at(rows, s);
+    let stretch = span.ahead_of(rows.direction, ahead.position, s);
+    SpanAhead {
+        ahead,
+        span,
+        stretch,
+    }
 }
 
 impl LayoutDirection {
@@ -93,20 +73,4 @@ pub fn goes_up(direction: Direction, span: Span, way: LayoutDirection) -> bool
     } else {
         !way.is_forward()
     }
-}
-
-/// Which of the places `at`, .., `at + n` a walk meets first.
-pub fn next_of(up: bool, at: usize, n: usize) -> usize
-    requires { at + n < 2 ^ 64 }
-    ensures { result ≡ next up at n }
-{
-    if up { at } else { at + n }
-}
-
-/// Where the `n` places begin that are left then.
-pub fn later_of(up: bool, at: usize) -> usize
-    requires { at + 1 < 2 ^ 64 }
-    ensures { result ≡ later up at }
-{
-    if up { at + 1 } else { at }
 }

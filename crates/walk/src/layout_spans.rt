@@ -1,122 +1,100 @@
 // The walk.
-ghost use Rattle.std.specs.Prelude.{◌≡◌, ◌+◌, ◌-◌, ◌≤◌, true, false, ◌++◌, length, drop};
-ghost use Rattle.paragraph.specs.Reading.{exists};
-ghost use Rattle.paragraph.specs.Text.{Sound};
-ghost use Rattle.paragraph.specs.Lent.{lent};
-ghost use Rattle.walk.specs.Walk.{lay, told, walked};
+ghost use Rattle.paragraph.specs.Aheads.{text_at};
+ghost use Rattle.std.specs.Prelude.{◌≡◌, ◌+◌, ◌*◌, ◌-◌, ◌^◌, ◌≤◌, false, ◌++◌, length, drop};
+ghost use Rattle.walk.specs.Parts.{words_in};
+ghost use Rattle.walk.specs.Steps.{as_part};
+ghost use Rattle.walk.specs.Walk.{in_span, lay, told, walked};
 
-use crate::ahead::{goes_up, later_of, next_of, span_at, words_in};
+use crate::ahead::{goes_up, in_span, spans_of};
 use crate::line::{LayoutDirection, Rule, VlRange, Walked};
-use crate::overflow::overflows;
-use crate::part::{cut_part, unwalked, with_word};
+use crate::places::Places;
 use crate::put::{turn, with_part};
-use crate::rest::Rest;
+use crate::span_ahead::SpanAhead;
+use crate::span_part::SpanPart;
 use crate::walk_whole::walk_whole;
-use crate::widths::part_width;
+use crate::walk_words::walk_words;
 use measure::measure::Measure;
-use paragraph::place::Position;
-use paragraph::tables::Tables;
+use paragraph::ahead::Ahead;
 
 // A line with nothing on it.
-fn nothing<M: Measure>(m: &M) -> Walked<M::Width>
-    ensures { result ≡ record { ranges = 0; blanks = 0; laid = 0; width = M.Measure.nil_of m.now; flagged = false } }
+fn nothing<M: Measure>() -> Walked<M::Width>
+    ensures { result ≡ record { ranges = 0; blanks = 0; laid = 0; width = M.Measure.NIL; flagged = false } }
 {
     Walked {
         ranges: 0,
         blanks: 0,
         laid: 0,
-        width: m.zero(),
+        width: M::NIL,
         flagged: false,
     }
 }
 
-// The walk, its ranges in the order in which it comes to them. `first` is where the spans begin, in table order, that are still to walk, and `at`
-// where the words of the span do. Where nothing overflows the words are only added up.
+// What the walk lays of a span. Where nothing overflows a loop of its own only adds the words up: asked word by word, that takes a third longer.
+// The two bounds keep sums in range within this walk; no caller is told them, so that they stand in no type.
+fn walk_span<M: Measure>(
+    m: &M,
+    rule: Rule<M::Width>,
+    own: SpanAhead<'_>,
+    up: bool,
+    line: Walked<M::Width>,
+    spans: Places,
+) -> SpanPart<M::Width>
+    requires few { line.blanks ≤ 2 ^ 20 }
+    requires small { line.laid ≤ 2 ^ 34 }
+    requires there { spans.first + spans.count ≤ length (text_at own.ahead).spans }
+    ensures exact { as_part result ≡ in_span M.Measure m.now (text_at own.entry.ahead) own.entry.ahead.position rule own.entry.span own.entry.stretch up spans.first spans.count line.width M.Measure.NIL line.blanks line.laid own.entry.stretch.start.word (words_in own.entry.stretch) }
+    ensures few { result.flagged ≡ false → result.blanks ≤ line.blanks + words_in own.entry.stretch }
+    ensures small { result.flagged ≡ false → result.laid ≤ line.laid + 16384 * words_in own.entry.stretch }
+{
+    match rule {
+        Rule::Never => walk_whole(m, own, up, line, spans),
+        _ => walk_words(m, rule, own, up, line, spans),
+    }
+}
+
+// The walk, its ranges in the order in which it comes to them.
 fn walk_spans<M: Measure>(
     m: &M,
-    tables: Tables<'_>,
-    position: Position,
+    ahead: Ahead<'_>,
     direction: LayoutDirection,
     rule: Rule<M::Width>,
     ranges: &mut [VlRange],
 ) -> Walked<M::Width>
-    requires sound { Sound (lent tables) }
-    requires stands { exists (lent tables) position ≡ true }
-    ensures told { result ≡ told (walked M.Measure m.now (lent tables.entry) position rule direction) }
-    ensures few { result.ranges ≤ length tables.entry.spans.now - position.span }
-    ensures written { length tables.entry.spans.now - position.span ≤ length ranges.old → ranges.new ≡ (walked M.Measure m.now (lent tables.entry) position rule direction).ranges ++ drop result.ranges ranges.old }
+    ensures told { result ≡ told (walked M.Measure m.now (text_at ahead.entry) ahead.entry.position rule direction) }
+    ensures few { result.ranges ≤ length (text_at ahead.entry).spans - ahead.entry.position.span }
+    ensures written { length (text_at ahead.entry).spans - ahead.entry.position.span ≤ length ranges.old → ranges.new ≡ (walked M.Measure m.now (text_at ahead.entry) ahead.entry.position rule direction).ranges ++ drop result.ranges ranges.old }
 {
-    let forward = direction.is_forward();
-    let mut line = nothing(m);
-    let mut first = position.span;
-    'outer: for spans in (0..tables.spans.len() - position.span).rev() {
-        let s = next_of(forward, first, spans);
-        first = later_of(forward, first);
-        let span = span_at(tables, s);
-        let stretch = span.ahead_of(tables.direction, position, s);
-        let ahead = Rest {
-            span,
-            stretch,
-            at: stretch.start.word,
-            words: words_in(stretch),
-            first,
-            spans,
-        };
-        let up = goes_up(tables.direction, span, direction);
-        if let Rule::Never = rule {
-            let whole = walk_whole(m, tables, up, line, ahead);
-            line = with_part(m, ranges, line, s, span.level, whole);
-            continue 'outer;
+    let mut line = nothing::<M>();
+    let mut spans = spans_of(ahead, direction.is_forward());
+    while let Some(s) = spans.next() {
+        let own = in_span(ahead, s);
+        let up = goes_up(ahead.tables.rows.direction, own.span, direction);
+        let part = walk_span(m, rule, own, up, line, spans);
+        line = with_part(m, ranges, line, s, own.span.level, part);
+        if part.flagged {
+            return line;
         }
-        let mut part = unwalked(m, line, stretch);
-        let mut at = ahead.at;
-        'inner: for words in (0..ahead.words).rev() {
-            let w = next_of(up, at, words);
-            at = later_of(up, at);
-            let x = part_width(m, tables, span, stretch, w);
-            let rest = Rest {
-                span,
-                stretch,
-                at,
-                words,
-                first,
-                spans,
-            };
-            let before = m.sum(line.width, part.width);
-            if overflows(m, tables, position, rule, before, x, w, rest) {
-                let cut = cut_part(m, tables, rule, span, up, line.width, part, w);
-                line = with_part(m, ranges, line, s, span.level, cut);
-                break 'outer;
-            }
-            part = with_word(m, tables, span, part, w, x);
-        }
-        line = with_part(m, ranges, line, s, span.level, part);
     }
     line
 }
 
-/// Walks what is ahead of the position, in reading order or from the paragraph's end back to the position, until a word overflows.
+/// Walks what is ahead, in reading order or from the paragraph's end back to the position, until a word overflows.
 ///
 /// The ranges are written into the first places of the list, in reading order; every place beyond is left as it is. A list with a place for each
 /// span from the position's on has room for them. What the walk tells does not depend on the list, so a walk is asked without a place to write to by an empty one.
-///
-/// An inner function: the calls above it have checked the tables and the position.
 pub fn layout_spans<M: Measure>(
     m: &M,
-    tables: Tables<'_>,
-    position: Position,
+    ahead: Ahead<'_>,
     direction: LayoutDirection,
     rule: Rule<M::Width>,
     ranges: &mut [VlRange],
 ) -> Walked<M::Width>
-    requires sound { Sound (lent tables) }
-    requires stands { exists (lent tables) position ≡ true }
-    ensures told { result ≡ told (lay M.Measure m.now (lent tables.entry) position rule direction) }
-    ensures few { result.ranges ≤ length tables.entry.spans.now - position.span }
-    ensures written { length tables.entry.spans.now - position.span ≤ length ranges.old → ranges.new ≡ (lay M.Measure m.now (lent tables.entry) position rule direction).ranges ++ drop result.ranges ranges.old }
+    ensures told { result ≡ told (lay M.Measure m.now (text_at ahead.entry) ahead.entry.position rule direction) }
+    ensures few { result.ranges ≤ length (text_at ahead.entry).spans - ahead.entry.position.span }
+    ensures written { length (text_at ahead.entry).spans - ahead.entry.position.span ≤ length ranges.old → ranges.new ≡ (lay M.Measure m.now (text_at ahead.entry) ahead.entry.position rule direction).ranges ++ drop result.ranges ranges.old }
     ensures length { length ranges.new ≡ length ranges.old }
 {
-    let line = walk_spans(m, tables, position, direction, rule, ranges);
+    let line = walk_spans(m, ahead, direction, rule, ranges);
     if !direction.is_forward() {
         turn(ranges, line.ranges);
     }

@@ -23,7 +23,7 @@ pub enum Rule<W> {
 
 /// A range of a line: a part of a span between two places in table order, with the span's level. The ellipsis is a range that names no span, from
 /// (0, 0) to (1, 0).
-#[derive(Clone, Copy)]
+#[derive(Clone, Copy, PartialEq, Eq, Default, Debug)]
 pub struct VlRange {
     pub span: Option<usize>,
     pub start: Place,

@@ -1,18 +1,12 @@
 // The line with what was laid of one more span.
 ghost use Rattle.std.specs.Prelude.{◌≡◌, ◌+◌, ◌^◌, ◌<◌, ◌≤◌, ◌++◌, reverse, length, take, drop};
 ghost use Rattle.walk.specs.Steps.{counted, put_at, range_at};
-ghost use Rattle.walk.specs.Walk.{same_place};
 
 use crate::line::{VlRange, Walked};
 use crate::span_part::SpanPart;
 use measure::measure::Measure;
-use paragraph::place::Place;
 
-fn is_same(a: Place, b: Place) -> bool
-    ensures { result ≡ same_place a b }
-{
-    a.word == b.word && a.glyph == b.glyph
-}
+// The list is the caller's, of which a line takes the first places: nothing allocates where a line is laid, here and in all that lays lines.
 
 /// Writes a range behind the first `count` ones, where the list has room, and answers how many there are then. A range with equal ends is left out.
 /// One for which there is no room is counted all the same, so that a walk may be asked what it lays without a place to write it to.
@@ -21,7 +15,7 @@ pub fn put(ranges: &mut [VlRange], count: usize, range: VlRange) -> usize
     ensures count { result ≡ counted count range }
     ensures list { ranges.new ≡ put_at ranges.old count range }
 {
-    if is_same(range.start, range.end) {
+    if range.start == range.end {
         return count;
     }
     if count < ranges.len() {
@@ -36,7 +30,7 @@ pub fn turn(ranges: &mut [VlRange], count: usize)
     ensures kept { length ranges.old < count → ranges.new ≡ ranges.old }
 {
     if count <= ranges.len() {
-        ranges[0..count].reverse();
+        ranges[..count].reverse();
     }
 }
 

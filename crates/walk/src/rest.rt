@@ -1,15 +1,17 @@
 // What is still to walk.
-use paragraph::place::Stretch;
-use paragraph::span::Span;
+ghost use Rattle.paragraph.specs.Aheads.{text_at};
+ghost use Rattle.std.specs.Prelude.{◌+◌, ◌≤◌, length};
+ghost use Rattle.walk.specs.Inside.{ReachesAll};
 
-/// What is still to walk behind a word, in table order: the `words` words from `at` on of its span, of which `stretch` is ahead, and then the `spans`
-/// spans from `first` on.
+use crate::places::Places;
+use crate::span_ahead::SpanAhead;
+
+/// What is still to walk behind a word: these words of its span, and then these spans.
 #[derive(Clone, Copy)]
-pub struct Rest {
-    pub span: Span,
-    pub stretch: Stretch,
-    pub at: usize,
-    pub words: usize,
-    pub first: usize,
-    pub spans: usize,
+pub struct Rest<'a> {
+    pub own: SpanAhead<'a>,
+    pub words: Places,
+    pub spans: Places,
+    ghost reaches: { ReachesAll own.stretch words },
+    ghost there: { spans.first + spans.count ≤ length (text_at own.ahead).spans },
 }

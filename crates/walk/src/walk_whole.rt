@@ -1,46 +1,38 @@
 // The walk through one span where nothing overflows.
+ghost use Rattle.paragraph.specs.Aheads.{text_at};
 ghost use Rattle.std.specs.Prelude.{◌≡◌, ◌+◌, ◌*◌, ◌^◌, ◌≤◌, false};
-ghost use Rattle.paragraph.specs.Lent.{lent};
-ghost use Rattle.paragraph.specs.Text.{Sound};
-ghost use Rattle.paragraph.specs.declared.place.Position.{Position};
-ghost use Rattle.walk.specs.Inside.{Inside};
+ghost use Rattle.walk.specs.Parts.{words_in};
 ghost use Rattle.walk.specs.Steps.{as_part};
 ghost use Rattle.walk.specs.Walk.{in_span};
 ghost use Rattle.walk.specs.declared.line.Rule.TheVariants.{Never};
 
-use crate::ahead::{later_of, next_of};
 use crate::line::Walked;
 use crate::part::{unwalked, with_word};
-use crate::rest::Rest;
+use crate::places::Places;
+use crate::span_ahead::SpanAhead;
 use crate::span_part::SpanPart;
 use crate::widths::part_width;
 use measure::measure::Measure;
-use paragraph::tables::Tables;
 
-/// What a walk in which nothing overflows lays of a span of which `ahead` is still to walk: all of that. `line` is what it laid before.
+/// What a walk in which nothing overflows lays of a span: all that is ahead in it. `line` is what it laid before, and `spans` are those behind this one.
 pub fn walk_whole<M: Measure>(
     m: &M,
-    tables: Tables<'_>,
+    own: SpanAhead<'_>,
     up: bool,
     line: Walked<M::Width>,
-    ahead: Rest,
+    spans: Places,
 ) -> SpanPart<M::Width>
-    requires sound { Sound (lent tables) }
-    requires inside { Inside (lent tables) ahead.span ahead.stretch ahead.at ahead.words }
-    requires few { line.blanks + ahead.words ≤ 2 ^ 21 }
-    requires small { line.laid + 16384 * ahead.words ≤ 2 ^ 35 }
-    ensures exact { (p : Position) → as_part result ≡ in_span M.Measure m.now (lent tables.entry) p Never ahead.span ahead.stretch up ahead.first ahead.spans line.width (M.Measure.nil_of m.now) line.blanks line.laid ahead.at ahead.words }
-    ensures unflagged { result.flagged ≡ false }
-    ensures few { result.blanks ≤ line.blanks + ahead.words }
-    ensures small { result.laid ≤ line.laid + 16384 * ahead.words }
+    requires few { line.blanks ≤ 2 ^ 20 }
+    requires small { line.laid ≤ 2 ^ 34 }
+    ensures exact { as_part result ≡ in_span M.Measure m.now (text_at own.entry.ahead) own.entry.ahead.position Never own.entry.span own.entry.stretch up spans.first spans.count line.width M.Measure.NIL line.blanks line.laid own.entry.stretch.start.word (words_in own.entry.stretch) }
+    ensures few { result.blanks ≤ line.blanks + words_in own.entry.stretch }
+    ensures small { result.laid ≤ line.laid + 16384 * words_in own.entry.stretch }
 {
-    let mut part = unwalked(m, line, ahead.stretch);
-    let mut at = ahead.at;
-    for words in (0..ahead.words).rev() {
-        let w = next_of(up, at, words);
-        at = later_of(up, at);
-        let x = part_width(m, tables, ahead.span, ahead.stretch, w);
-        part = with_word(m, tables, ahead.span, part, w, x);
+    let mut part = unwalked::<M>(line, own.stretch);
+    let mut words = own.words(up);
+    while let Some(w) = words.next() {
+        let x = part_width(m, own, w);
+        part = with_word(m, own, part, w, x);
     }
     part
 }

@@ -1,97 +1,54 @@
 // The widths of words, and of what is still to walk.
-ghost use Rattle.std.specs.Prelude.{◌≡◌, ◌+◌, ◌≤◌, true, length};
-ghost use Rattle.paragraph.specs.Reading.{exists};
-ghost use Rattle.paragraph.specs.Text.{Sound};
-ghost use Rattle.paragraph.specs.Lent.{lent};
-ghost use Rattle.walk.specs.Inside.{Inside};
+ghost use Rattle.paragraph.specs.Aheads.{text_at};
+ghost use Rattle.std.specs.Prelude.{◌≡◌, ◌+◌, ◌≤◌, length};
+ghost use Rattle.walk.specs.Inside.{Reaches, ReachesAll};
 ghost use Rattle.walk.specs.Widths.{part_width, words_width, spans_width, rest_width};
 
-use crate::ahead::{part_in, span_at, word_at, words_in};
+use crate::ahead::in_span;
+use crate::places::Places;
 use crate::rest::Rest;
+use crate::span_ahead::SpanAhead;
 use measure::measure::Measure;
 use measure::rows::row_width;
-use paragraph::place::{Position, Stretch};
-use paragraph::span::Span;
-use paragraph::tables::Tables;
+use paragraph::ahead::Ahead;
 
-/// The width of the part of a word that is in a stretch. The word's index in its span is `w`.
-pub fn part_width<M: Measure>(
-    m: &M,
-    tables: Tables<'_>,
-    span: Span,
-    stretch: Stretch,
-    w: usize,
-) -> M::Width
-    requires sound { Sound (lent tables) }
-    requires inside { Inside (lent tables) span stretch w 1 }
-    ensures { result ≡ part_width M.Measure m.now (lent tables.entry) span stretch w }
+/// The width of the part of the word `w` that is ahead.
+pub fn part_width<M: Measure>(m: &M, own: SpanAhead<'_>, w: usize) -> M::Width
+    requires { Reaches own.stretch w }
+    ensures { result ≡ part_width M.Measure m.now (text_at own.entry.ahead) own.entry.span own.entry.stretch w }
 {
-    let word = word_at(tables, span.offset + w);
-    let (start, end) = part_in(stretch, w, word.len);
-    row_width(m, &tables.glyphs[word.offset + start..word.offset + end])
+    row_width(m, own.glyphs(w))
 }
 
-/// `before` plus the widths of the `count` words of a span from `first` on, in table order.
-pub fn add_words<M: Measure>(
-    m: &M,
-    tables: Tables<'_>,
-    span: Span,
-    stretch: Stretch,
-    before: M::Width,
-    first: usize,
-    count: usize,
-) -> M::Width
-    requires sound { Sound (lent tables) }
-    requires inside { Inside (lent tables) span stretch first count }
-    ensures { result ≡ words_width M.Measure m.now (lent tables.entry) span stretch before first count }
+/// `before` plus the widths of these words of a span, in table order.
+pub fn add_words<M: Measure>(m: &M, own: SpanAhead<'_>, before: M::Width, words: Places) -> M::Width
+    requires { ReachesAll own.stretch words }
+    ensures { result ≡ words_width M.Measure m.now (text_at own.entry.ahead) own.entry.span own.entry.stretch before words.first words.count }
 {
     let mut width = before;
-    for i in 0..count {
-        width = m.sum(width, part_width(m, tables, span, stretch, first + i));
+    for w in words.first..words.first + words.count {
+        width = m.sum(width, part_width(m, own, w));
     }
     width
 }
 
-/// `before` plus what is ahead of the position in the `count` spans from `first` on, in table order.
-pub fn add_spans<M: Measure>(
-    m: &M,
-    tables: Tables<'_>,
-    position: Position,
-    before: M::Width,
-    first: usize,
-    count: usize,
-) -> M::Width
-    requires sound { Sound (lent tables) }
-    requires stands { exists (lent tables) position ≡ true }
-    requires within { first + count ≤ length tables.spans.now }
-    ensures { result ≡ spans_width M.Measure m.now (lent tables.entry) position before first count }
+/// `before` plus what is ahead of the position in these spans, in table order.
+pub fn add_spans<M: Measure>(m: &M, ahead: Ahead<'_>, before: M::Width, spans: Places) -> M::Width
+    requires { spans.first + spans.count ≤ length (text_at ahead).spans }
+    ensures { result ≡ spans_width M.Measure m.now (text_at ahead.entry) ahead.entry.position before spans.first spans.count }
 {
     let mut width = before;
-    for i in 0..count {
-        let span = span_at(tables, first + i);
-        let stretch = span.ahead_of(tables.direction, position, first + i);
-        let words = words_in(stretch);
-        width = add_words(m, tables, span, stretch, width, stretch.start.word, words);
+    for s in spans.first..spans.first + spans.count {
+        let own = in_span(ahead, s);
+        width = add_words(m, own, width, own.words(true));
     }
     width
 }
 
 /// The words still to walk, added from nil: those of this span first, then the other spans.
-pub fn rest_width<M: Measure>(m: &M, tables: Tables<'_>, position: Position, rest: Rest) -> M::Width
-    requires sound { Sound (lent tables) }
-    requires stands { exists (lent tables) position ≡ true }
-    requires inside { Inside (lent tables) rest.span rest.stretch rest.at rest.words }
-    requires within { rest.first + rest.spans ≤ length tables.spans.now }
-    ensures { result ≡ rest_width M.Measure m.now (lent tables.entry) position rest.span rest.stretch rest.at rest.words rest.first rest.spans }
+pub fn rest_width<M: Measure>(m: &M, rest: Rest<'_>) -> M::Width
+    ensures { result ≡ rest_width M.Measure m.now (text_at rest.entry.own.ahead) rest.entry.own.ahead.position rest.entry.own.span rest.entry.own.stretch rest.entry.words.first rest.entry.words.count rest.entry.spans.first rest.entry.spans.count }
 {
-    let own = add_words(
-        m,
-        tables,
-        rest.span,
-        rest.stretch,
-        m.zero(),
-        rest.at,
-        rest.words,
-    );
-    add_spans(m, tables, position, own, rest.first, rest.spans)
+    let own = add_words(m, rest.own, M::NIL, rest.words);
+    add_spans(m, rest.own.ahead, own, rest.spans)
 }

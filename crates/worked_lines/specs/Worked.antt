@@ -1,4 +1,5 @@
--- Worked lines: paragraphs of one span with two words, each glyph one cell wide, measured in cells. docs/RULES.md, "Worked lines", has them as a table
+-- Worked lines: paragraphs of one span with two words, each glyph one cell wide, measured in cells: `k` is what that measure answers. docs/RULES.md,
+-- "Worked lines", has them as a table
 use Rattle.std.specs.Prelude.{◌≡◌, ℕ, ◌+◌, false, T, List, [], ◌∷◌, reverse, length, take, Some, None, Ok, Option, nat_le}
 use Rattle.std.proofs.Common.{lit≤}
 use Rattle.entry.specs.Steps.{Answer, answers, begun}
@@ -11,7 +12,8 @@ use Rattle.layout.specs.Ellipsis.{ellipsis_range}
 use Rattle.layout.specs.declared.line.ElidedBytes.{ElidedBytes}
 use Rattle.layout.specs.declared.line.Ellipsize.TheVariants as mode
 use Rattle.measure.specs.Rows.{row_width}
-use Rattle.measure.specs.contracts.cells.CellsMeasure.TheImpl.{ghosts}
+use Rattle.measure.specs.declared.cells.Cells.{Cells}
+use Rattle.measure.specs.declared.measure.Measure.{Ghosts}
 use Rattle.paragraph.specs.Text.{Text, text}
 use Rattle.paragraph.specs.Verdict.{verdict}
 use Rattle.paragraph.specs.declared.direction.Direction.TheVariants.{LeftToRight}
@@ -59,9 +61,9 @@ abbrev pub tally : ℕ → ℕ → ℕ → ℕ → Answer ℕ
 tally lines shown hidden left = counted (record { lines = lines; laid = shown; hidden = hidden; left = left })
 
 -- An entry opened on the text, with an ellipsis of so many cells, lent lists of three places: its tables are granted, and the calls answer so
-pub record Answers (t : Text) (ellipsis : ℕ) (calls : List (Call ℕ)) (given : List (Answer ℕ)) : Type 0 where
+pub record Answers (k : Ghosts Cells ℕ) (t : Text) (ellipsis : ℕ) (calls : List (Call ℕ)) (given : List (Answer ℕ)) : Type 0 where
   pub granted : verdict t (take ellipsis eleven) ≡ Ok tt
-  pub answered : answers ghosts (record {}) t (row_width ghosts (record {}) (take ellipsis eleven)) 3 3 (begun t) calls ≡ given
+  pub answered : answers k (record {}) t (row_width k (record {}) (take ellipsis eleven)) 3 3 (begun t) calls ≡ given
 
 abbrev pub end : ℕ → List (Call ℕ)
 end width = Close mode.End (Some width) ∷ Count ∷ []
@@ -76,19 +78,19 @@ takes first second = Take first ∷ Take second ∷ Count ∷ []
 -- stands between three and two; lines of 5 and 2 take the first word and then two glyphs of the second, and leave one. Words of 9 and 2 with an
 -- ellipsis of three: the first word fits 10 and the rest is not wider than the ellipsis, so the line passes 10. Words of 3 and 4 at level 1 are read from
 -- the table's end, and the ellipsis, which is read last, is seen first
-pub record Worked : Type 0 where
-  pub all_fits : Answers (upright 4 3) 1 (end 7) (line (from_to 0 0 0 2 0 ∷ []) (0 ∷ []) 7 7 None ∷ tally 1 7 0 0 ∷ [])
-  pub cut : Answers (upright 4 3) 1 (end 6) (line (from_to 0 0 0 1 1 ∷ ellipsis_range 0 ∷ []) (0 ∷ 1 ∷ []) 5 6 (bytes 5 7) ∷ tally 1 5 2 0 ∷ [])
-  pub passes : Answers (upright 9 2) 3 (end 10) (line (from_to 0 0 0 1 0 ∷ ellipsis_range 0 ∷ []) (0 ∷ 1 ∷ []) 9 12 (bytes 9 11) ∷ tally 1 9 2 0 ∷ [])
-  pub none_shown : Answers (upright 4 3) 1 (end 0) (line (ellipsis_range 0 ∷ []) (0 ∷ []) 0 1 (bytes 0 7) ∷ tally 1 0 7 0 ∷ [])
+pub record Worked (k : Ghosts Cells ℕ) : Type 0 where
+  pub all_fits : Answers k (upright 4 3) 1 (end 7) (line (from_to 0 0 0 2 0 ∷ []) (0 ∷ []) 7 7 None ∷ tally 1 7 0 0 ∷ [])
+  pub cut : Answers k (upright 4 3) 1 (end 6) (line (from_to 0 0 0 1 1 ∷ ellipsis_range 0 ∷ []) (0 ∷ 1 ∷ []) 5 6 (bytes 5 7) ∷ tally 1 5 2 0 ∷ [])
+  pub passes : Answers k (upright 9 2) 3 (end 10) (line (from_to 0 0 0 1 0 ∷ ellipsis_range 0 ∷ []) (0 ∷ 1 ∷ []) 9 12 (bytes 9 11) ∷ tally 1 9 2 0 ∷ [])
+  pub none_shown : Answers k (upright 4 3) 1 (end 0) (line (ellipsis_range 0 ∷ []) (0 ∷ []) 0 1 (bytes 0 7) ∷ tally 1 0 7 0 ∷ [])
   pub parted :
-      Answers (upright 4 3) 1 (middle 6)
+      Answers k (upright 4 3) 1 (middle 6)
       (line (from_to 0 0 0 0 3 ∷ ellipsis_range 0 ∷ from_to 0 1 1 2 0 ∷ []) (0 ∷ 1 ∷ 2 ∷ []) 5 6 (bytes 3 5) ∷ tally 1 5 2 0 ∷ [])
-  pub seen_turned : Answers (turned 3 4) 1 (end 6) (line (from_to 1 0 2 2 0 ∷ ellipsis_range 1 ∷ []) (1 ∷ 0 ∷ []) 5 6 (bytes 5 7) ∷ tally 1 5 2 0 ∷ [])
+  pub seen_turned : Answers k (turned 3 4) 1 (end 6) (line (from_to 1 0 2 2 0 ∷ ellipsis_range 1 ∷ []) (1 ∷ 0 ∷ []) 5 6 (bytes 5 7) ∷ tally 1 5 2 0 ∷ [])
   pub taken :
-      Answers (upright 4 3) 1 (takes 5 2)
+      Answers k (upright 4 3) 1 (takes 5 2)
       (line (from_to 0 0 0 1 0 ∷ []) (0 ∷ []) 4 4 None ∷ line (from_to 0 1 0 1 2 ∷ []) (0 ∷ []) 2 2 None ∷ tally 2 6 0 1 ∷ [])
   pub taken_turned :
-      Answers (turned 3 4) 1 (takes 5 2)
+      Answers k (turned 3 4) 1 (takes 5 2)
       (line (from_to 1 0 3 2 0 ∷ []) (0 ∷ []) 4 4 None ∷ line (from_to 1 0 1 1 0 ∷ []) (0 ∷ []) 2 2 None ∷ tally 2 6 0 1 ∷ [])
   pub turned_singly : visual (0 ∷ 1 ∷ 1 ∷ 0 ∷ []) ≡ 0 ∷ 2 ∷ 1 ∷ 3 ∷ []

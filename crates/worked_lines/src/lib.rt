@@ -3,7 +3,10 @@
 
 ghost use Rattle.worked_lines.specs.Worked.{Worked};
 
+use measure::cells::Cells;
+use measure::measure::Measure;
+
 /// What calls on entries of words with one cell to a glyph answer, and the visual order of four levels.
 pub fn worked_lines()
-    ensures { Worked }
+    ensures { Worked ⟦<Cells as Measure>⟧ }
 {}

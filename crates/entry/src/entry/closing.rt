@@ -4,26 +4,16 @@ ghost use Rattle.entry.specs.Entries.{progress_of};
 ghost use Rattle.entry.specs.Granted.{GrantedExactly};
 ghost use Rattle.entry.specs.Outcomes.{ComesTo, MayCloseOn, closed_on};
 ghost use Rattle.paragraph.specs.Holds.{text_of};
-ghost use Rattle.std.specs.Prelude.{◌≡◌, true, take, IfOk, Some, None};
+ghost use Rattle.std.specs.Prelude.{take, IfOk};
 
 use super::Entry;
-use crate::checks::check_line;
+use crate::checks::Request;
 use crate::fault::EntryFault;
 use crate::lines::lay_closing;
 use layout::line::{Ellipsize, VisualLine};
 use measure::measure::Measure;
 use paragraph::paragraph::Paragraph;
 use walk::line::VlRange;
-
-// A width that is not given is lawful.
-fn is_lawful<M: Measure>(m: &M, width: Option<M::Width>) -> bool
-    ensures { result ≡ elim width [ None ↦ true | Some w ↦ M.Measure.lawful_of m.now w ] }
-{
-    match width {
-        Some(w) => m.lawful(w),
-        None => true,
-    }
-}
 
 impl<M: Measure> Entry<M> {
     /// Lays what is ahead as the last line, by a mode and a width, and closes the entry. Without a mode or a width nothing overflows; else the ellipsis
@@ -43,20 +33,18 @@ impl<M: Measure> Entry<M> {
         ensures outcome { ComesTo (closed_on M.Measure self.old paragraph.now ranges.old order.old ellipsize width) self.old self.new result ranges.old ranges.new order.old order.new }
         ensures continues { IfOk result (λ line. Closes (text_of paragraph.now) (progress_of self.old) (progress_of self.new) (take line.ranges ranges.new) (take line.ranges order.new)) }
     {
-        let progress = self.progress;
-        let lawful = is_lawful(&self.measure, width);
-        check_line(paragraph, progress, lawful, ranges.len(), order.len())?;
         let m = &self.measure;
-        let line = lay_closing(
-            m,
-            paragraph,
-            progress.position,
-            ellipsize,
-            width,
-            ranges,
-            order,
-        );
-        self.progress = progress.after_close(line.laid);
+        let request = Request {
+            tables: paragraph.tables(),
+            progress: self.progress,
+            lawful: width.is_none_or(|w| m.lawful(w)),
+            ranges: ranges.len(),
+            order: order.len(),
+        };
+        let ahead = request.check_line()?;
+        let ellipsis = paragraph.ellipsis();
+        let line = lay_closing(m, ahead, ellipsis, ellipsize, width, ranges, order);
+        self.progress = self.progress.after_close(line.laid);
         Ok(line)
     }
 }

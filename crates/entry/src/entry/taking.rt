@@ -7,7 +7,7 @@ ghost use Rattle.paragraph.specs.Holds.{text_of};
 ghost use Rattle.std.specs.Prelude.{take, IfOk};
 
 use super::Entry;
-use crate::checks::check_take;
+use crate::checks::Request;
 use crate::fault::EntryFault;
 use crate::lines::lay_taken;
 use layout::line::VisualLine;
@@ -32,12 +32,16 @@ impl<M: Measure> Entry<M> {
         ensures outcome { ComesTo (taken_on M.Measure self.old paragraph.now ranges.old order.old width) self.old self.new result ranges.old ranges.new order.old order.new }
         ensures continues { IfOk result (λ line. Takes (text_of paragraph.now) (progress_of self.old) (progress_of self.new) (take line.ranges ranges.new) (take line.ranges order.new)) }
     {
-        let progress = self.progress;
-        let lawful = self.measure.lawful(width);
-        check_take(paragraph, progress, lawful, ranges.len(), order.len())?;
-        let position = progress.position;
-        let line = lay_taken(&self.measure, paragraph, position, width, ranges, order);
-        self.progress = progress.after_take(paragraph, line.laid);
+        let request = Request {
+            tables: paragraph.tables(),
+            progress: self.progress,
+            lawful: self.measure.lawful(width),
+            ranges: ranges.len(),
+            order: order.len(),
+        };
+        let ahead = request.check_take()?;
+        let line = lay_taken(&self.measure, ahead, width, ranges, order);
+        self.progress = self.progress.after_take(ahead.tables, line.laid);
         Ok(line)
     }
 }

@@ -1,15 +1,10 @@
-use Rattle.std.proofs.Common.{ℕ, min, take, sym, ap, ◌∙◌, take_all}
-use Rattle.glyph.specs.declared.glyph.Glyph.{Glyph}
-use Rattle.std.proofs.lemmas.List.Sums.{fold_more}
-use Rattle.layout.specs.Elided.{smallest_start}
+use Rattle.std.proofs.Common.{rules, sym, ◌∙◌}
+use Rattle.std.proofs.lemmas.Iterator.{YieldsList-from_slice, YieldsList-from_map}
+use Rattle.std.proofs.lemmas.Iterator.Consumers.{min_from_yields_List}
+use Rattle.std.proofs.lemmas.Iterator.Adapters.{option_map_id}
+use Rattle.layout.proofs.Glyphs.{min_start}
 use Rattle.layout.proofs.elided.smallest_start.Goals as goal
 
-pub loop-g-preserved : goal.loop-g-preserved
-loop-g-preserved c =
-    c.min-smallest.ensures
-    ∙ ap (λ (n : ℕ). min n c.g-item.result.start) c.loop-g.invariant
-    ∙ ap (λ (x : Glyph). min (smallest_start (take c.loop-g.g-index c.args.glyphs.now)) x.start) c.g-item.is
-    ∙ sym (fold_more (λ n x. min n x.start) 65535 c.args.glyphs.now c.loop-g.g-index c.g-item.result c.loop-g-test.true)
-
 pub returns : goal.returns
-returns c = c.loop-g.invariant ∙ ap smallest_start (take_all _ _ c.loop-g-test.false)
+returns c =
+    sym (option_map_id _) ∙ min_from_yields_List {v = λ x. x} _ _ c.min.ensures.ran (YieldsList-from_map _ (λ x. x.start) (YieldsList-from_slice c.args.glyphs.now cc) c.map.ensures.closure (λ x r q k. search rules)) ∙ min_start c.args.glyphs.now

@@ -1,11 +1,5 @@
-use Rattle.runs.proofs.Recordings.{by_call, close_performs, take_performs}
+use Rattle.runs.proofs.Recordings.{close_performs, take_performs}
 use Rattle.runs.proofs.performing.perform.Goals as goal
-
-pub record-requires : goal.record-requires
-record-requires g c = by_call c.take-answer.result _ _ _ _ _ c.take-answer.ensures.outcome.answer_is
-
-pub record-requires-in-Close : goal.record-requires-in-Close
-record-requires-in-Close g c = by_call c.close-answer.result _ _ _ _ _ c.close-answer.ensures.outcome.answer_is
 
 pub returns-in-Take : goal.returns-in-Take
 returns-in-Take g c =

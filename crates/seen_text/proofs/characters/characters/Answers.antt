@@ -1,24 +1,20 @@
-use Rattle.std.proofs.Common.{IsUtf8, ap, ◌∙◌, arith, rules}
-use Rattle.std.specs.Str.Iter.{chars_rest}
-use Rattle.seen_text.proofs.Spelt.{begun, has_level, room, one_more, all_read}
+use Rattle.std.proofs.Common.{◌≡◌, List, IfOk, IsUtf8, vec_items, subst, rules}
+use Rattle.std.proofs.lemmas.Iterator.{YieldsList-from_map, YieldsList-from_slice, YieldsList-from_zip, items_from_collect}
+use Rattle.std.specs.Char.{len_utf8}
+use Rattle.std.specs.Iterator.Adapters.{map_source, zip_first, zip_second}
+use Rattle.std.specs.Slice.Iter.{iter_rest}
+use Rattle.std.specs.Str.{chars}
+use Rattle.std.specs.Str.Iter.{char_indices_offset, char_indices_rest}
+use Rattle.visual_order.specs.declared.character.Character.{Character}
+use Rattle.seen_text.proofs.Spelt.{made_of, places_given}
 use Rattle.seen_text.proofs.characters.characters.Goals as goal
 
-pub loop-c-init : goal.loop-c-init
-loop-c-init c =
-    let text : IsUtf8 c.args.text.now = search rules in
-    begun _ c.args.levels.now _ _ text c.new-characters.ensures.items (ap chars_rest c.into_iter-c-iterator.ensures.into_iter_gives ∙ c.chars-c-items.ensures.rest)
-
-pub bounds-levels-len : goal.bounds-levels-len
-bounds-levels-len c =
-    let h = has_level (chars_rest c.next.new.self) c.in-Some.c c.loop-c.invariant c.requires c.in-Some.ensures.steps.0 in omega (arith, h, c.len.ensures, c.loop-c.characters.ok)
-
-pub overflow_add-start : goal.overflow_add-start
-overflow_add-start c =
-    let h = room (chars_rest c.next.new.self) c.in-Some.c c.loop-c.invariant c.requires c.in-Some.ensures.steps.0 in omega (arith, h, c.len_utf8-len.ensures.value)
-
-pub loop-c-preserved : goal.loop-c-preserved
-loop-c-preserved c =
-    one_more (chars_rest c.next.new.self) c.in-Some.c c.loop-c.invariant c.requires c.in-Some.ensures.steps.0 _ c.len_utf8-len.result c.len.result c.len_utf8-len.ensures.value (c.len.ensures ∙ c.loop-c.characters.ok.0) c.in_ok-push.ensures.items
-
 pub returns : goal.returns
-returns c = all_read c.loop-c.invariant c.in-None.ensures.steps.0.0
+returns c =
+    let text : IsUtf8 c.args.text.now = search rules in
+    let zipped = map_source c.map.result in
+    let rest : char_indices_rest (zip_first zipped) ≡ c.args.text.now = search rules in
+    let offset : char_indices_offset (zip_first zipped) ≡ 0 = search rules in
+    let levels : iter_rest (zip_second zipped) ≡ c.args.levels.now = search rules in
+    let made = YieldsList-from_map _ (λ p. record { start = p.0.0; len = len_utf8 p.0.1; level = p.1 }) (YieldsList-from_zip (places_given (zip_first zipped) c.args.text.now text rest offset) (YieldsList-from_slice c.args.levels.now levels)) c.map.ensures.closure (λ x r q k. search rules) in
+    subst (λ (cs : List Character). IfOk c.collect.result (λ w. vec_items w ≡ cs)) (made_of 0 (chars c.args.text.now) c.args.levels.now) (items_from_collect c.collect.result c.collect.ensures.ran made)

@@ -1,7 +1,6 @@
-use Rattle.std.proofs.Common.{map, get_or, IsUtf8, ap, ◌∙◌, arith, rules}
+use Rattle.std.proofs.Common.{map, get_or, IsUtf8, ◌∙◌, arith, rules}
 use Rattle.std.specs.Str.{chars}
-use Rattle.std.proofs.lemmas.List.{take_all}
-use Rattle.seen_text.specs.Seen.{level_of, seen_bytes}
+use Rattle.seen_text.specs.Seen.{level_of}
 use Rattle.seen_text.proofs.Spelt.{stands, ends_within, starts_whole, ends_whole, bytes_are, seen_more}
 use Rattle.seen_text.proofs.seen_line.in_order.Goals as goal
 
@@ -22,6 +21,3 @@ loop-i-preserved c =
     let text : IsUtf8 c.args.text.now = search rules in
     let s = stands _ (map level_of c.args.characters.now) c.args.characters.now (get_or c.args.order.now c.loop-i.i-index 0) (record { start = 0; len = 0; level = 0 }) text c.requires.spelt (c.requires.indices c.loop-i.i-index c.loop-i-test.true) in
     seen_more (chars c.args.text.now) c.args.order.now _ _ _ c.loop-i.i-index c.loop-i-test.true c.loop-i.invariant c.in_ok-push_str.ensures.bytes (c.range.ensures.value ∙ bytes_are s)
-
-pub returns : goal.returns
-returns c = c.loop-i.invariant ∙ ap (seen_bytes (chars c.args.text.now)) (take_all c.loop-i.i-index c.args.order.now c.loop-i-test.false)

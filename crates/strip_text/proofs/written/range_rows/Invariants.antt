@@ -4,5 +4,5 @@ use Rattle.strip_text.specs.Printed.{range_row}
 use Rattle.paragraph.specs.Lent.{lent}
 use Rattle.strip_text.proofs.written.range_rows.Given as goal
 
-abbrev pub invariant-loop-i : goal.invariant-loop-i
-invariant-loop-i l = string_bytes l.rows ≡ flat_map (range_row (lent l.tables)) (take l.i l.ranges)
+abbrev pub invariant-loop-range : goal.invariant-loop-range
+invariant-loop-range l = string_bytes l.rows ≡ flat_map (range_row (lent l.tables)) (take l.range-index l.ranges)

@@ -3,5 +3,5 @@ use Rattle.std.specs.List.{flat_map}
 use Rattle.strip_text.specs.Printed.{spaced}
 use Rattle.strip_text.proofs.written.spaced_numbers.Given as goal
 
-abbrev pub invariant-loop-i : goal.invariant-loop-i
-invariant-loop-i l = string_bytes l.spaced ≡ flat_map spaced (take l.i l.numbers)
+abbrev pub invariant-loop-number : goal.invariant-loop-number
+invariant-loop-number l = string_bytes l.spaced ≡ flat_map spaced (take l.number-index l.numbers)

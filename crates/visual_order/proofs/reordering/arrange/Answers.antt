@@ -1,41 +1,47 @@
-use Rattle.std.proofs.Common.{ℕ, ◌+◌, ◌-◌, [], map, length, sym, ap, ◌∙◌, arith}
+use Rattle.std.proofs.Common.{ℕ, ◌+◌, ◌-◌, [], map, length, unwrap_or, sym, refl, ap, ◌∙◌, arith}
 use Rattle.std.specs.List.{range_with_len}
 use Rattle.std.proofs.lemmas.List.{length-map}
-use Rattle.visual_order.specs.VisualOrder.{turned, high}
+use Rattle.visual_order.specs.VisualOrder.{turned, high, highest, lowest_odd}
+use Rattle.visual_order.proofs.Bounds.{highest_found, lowest_odd_found, lowest_odd_within}
 use Rattle.visual_order.proofs.InPlace.{high_in_place}
-use Rattle.visual_order.proofs.Rounds.{rounds_none, rounds_more, lowest_odd_le, rounds_done}
+use Rattle.visual_order.proofs.Rounds.{rounds_none, rounds_more, rounds_done}
 use Rattle.visual_order.proofs.reordering.arrange.Goals as goal
 
-pub loop-k-init : goal.loop-k-init
-loop-k-init g c =
+pub returns-in_default : goal.returns-in_default
+returns-in_default g c =
     let levels = map g.E.Leveled.depth c.args.elements.now in
-    let top = c.from-top.result + 1 in (
-      omega (arith, c.lowest_odd_level-low.ensures, lowest_odd_le levels top),
-      omega arith,
-      c.number_places.ensures ∙ ap (range_with_len 0) c.requires ∙ sym (rounds_none levels (range_with_len 0 (length c.args.elements.now)) top (top - top) (omega arith)),
-    )
+    let n = length c.args.elements.now in
+    let none = highest levels + 1 in
+    let low_is = lowest_odd_found levels ∙ ap (λ o. unwrap_or o none) (sym c.lowest_odd_level.ensures ∙ c.in_default.is) in
+    let start = c.number_places.ensures ∙ ap (range_with_len 0) c.requires ∙ sym (rounds_none levels (range_with_len 0 n) none (none - none) (omega arith)) in
+    rounds_done levels c.number_places.new.line n none none none (length-map c.args.elements.now g.E.Leveled.depth) refl (sym low_is) refl start
 
-pub reverse_runs-requires : goal.reverse_runs-requires
-reverse_runs-requires g c =
+pub loop-level-init : goal.loop-level-init
+loop-level-init g c =
     let levels = map g.E.Leveled.depth c.args.elements.now in
-    let top = c.from-top.result + 1 in
-    let k = c.loop-k.k in
-    record { as_long = omega arith; in_place = high_in_place levels (k - 1) k (top - k) (length c.args.elements.now) c.loop-k.line (omega arith) c.loop-k.invariant.2 }
+    let top = c.unwrap-top.result in
+    let top_is = highest_found levels top (sym c.highest_level.ensures ∙ c.unwrap-top.ensures) in
+    record {
+      within = omega (arith, lowest_odd_within levels c.in-Some.low (sym c.lowest_odd_level.ensures ∙ c.in-Some.is));
+      above = c.number_places.ensures ∙ ap (range_with_len 0) c.requires ∙ sym (rounds_none levels (range_with_len 0 (length c.args.elements.now)) (top + 1) (top - top) (omega arith));
+    }
 
-pub loop-k-preserved : goal.loop-k-preserved
-loop-k-preserved g c =
+pub reverse_runs-requires-clause-in_place : goal.reverse_runs-requires-clause-in_place
+reverse_runs-requires-clause-in_place g c =
     let levels = map g.E.Leveled.depth c.args.elements.now in
-    let top = c.from-top.result + 1 in
-    let k = c.loop-k.k in (
-      omega arith,
-      omega (arith, c.loop-k.invariant.1),
-      c.reverse_runs.ensures
-          ∙ ap (turned (high levels (k - 1)) []) c.loop-k.invariant.2
-          ∙ sym (rounds_more levels (range_with_len 0 (length c.args.elements.now)) (k - 1) k (top - k) (top - (k - 1)) (omega arith) (omega (arith, c.loop-k.invariant.1))),
-    )
+    let level = c.loop-level.level in
+    high_in_place levels level (level + 1) (c.unwrap-top.result - level) (length c.args.elements.now) c.loop-level.line (omega arith) c.loop-level.invariant.above
 
-pub returns : goal.returns
-returns g c =
+pub returns-in-Some-2 : goal.returns-in-Some-2
+returns-in-Some-2 g c =
     let levels = map g.E.Leveled.depth c.args.elements.now in
-    let elements = c.args.elements.now in
-    rounds_done levels c.loop-k.line (length elements) c.loop-k.k c.lowest_odd_level-low.result (c.from-top.result + 1) (length-map elements g.E.Leveled.depth) (ap (λ (n : ℕ). n + 1) (c.from-top.ensures ∙ c.highest_level.ensures)) c.lowest_odd_level-low.ensures (omega (arith, c.loop-k.invariant.0, c.loop-k-test.false)) c.loop-k.invariant.2
+    let n = length c.args.elements.now in
+    let level = c.loop-level.level in
+    let top = c.unwrap-top.result in
+    let top_is = highest_found levels top (sym c.highest_level.ensures ∙ c.unwrap-top.ensures) in
+    let low_is = lowest_odd_found levels ∙ ap (λ o. unwrap_or o (highest levels + 1)) (sym c.lowest_odd_level.ensures ∙ c.in-Some.is) in
+    let last =
+    c.reverse_runs.ensures
+    ∙ ap (turned (high levels level) []) c.loop-level.invariant.above
+    ∙ sym (rounds_more levels (range_with_len 0 n) level (level + 1) (top - level) (top + 1 - level) (omega arith) (omega (arith, c.loop-level.auto.level))) in
+    rounds_done levels c.reverse_runs.new.line n level c.in-Some.low (top + 1) (length-map c.args.elements.now g.E.Leveled.depth) (omega arith) (sym low_is ∙ ap (λ (t : ℕ). lowest_odd (t + 1) levels) top_is) (omega arith) last

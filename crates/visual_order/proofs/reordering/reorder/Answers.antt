@@ -1,4 +1,4 @@
-use Rattle.std.proofs.Common.{◌≡◌, ℕ, ◌-◌, ◌++◌, map, length, drop, ap, ap₂, arith, rules}
+use Rattle.std.proofs.Common.{◌≡◌, ℕ, ◌++◌, map, length, drop, sym, ap, ap₂, rules}
 use Rattle.std.proofs.lemmas.List.{length-map}
 use Rattle.visual_order.specs.VisualOrder.{visual}
 use Rattle.visual_order.proofs.Theorems.{front_indices, front_pairs, front_once}
@@ -10,10 +10,9 @@ returns g c =
     let before = c.args.order.now in
     let levels = map g.E.Leveled.depth elements in
     let len : length levels ≡ length elements = length-map elements g.E.Leveled.depth in
-    let now = c.arrange.new.line ++ drop (length elements - 0) before in
+    let now = c.arrange.new.line ++ drop (length elements) before in
     let rest = drop (length levels) before in
-    let same : length elements - 0 ≡ length levels = omega arith in
-    let is : now ≡ visual levels ++ rest = ap₂ ◌++◌ c.arrange.ensures (ap (λ (k : ℕ). drop k before) same) in
+    let is : now ≡ visual levels ++ rest = ap₂ ◌++◌ c.arrange.ensures (ap (λ (k : ℕ). drop k before) (sym len)) in
     record {
       answer = search rules;
       list = is;

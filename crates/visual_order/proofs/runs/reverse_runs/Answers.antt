@@ -7,7 +7,7 @@ use Rattle.visual_order.proofs.runs.reverse_runs.Goals as goal
 
 pub loop-start-preserved : goal.loop-start-preserved
 loop-start-preserved g c =
-    let h = high (map g.E.Leveled.depth c.args.elements.now) c.args.k in
+    let h = high (map g.E.Leveled.depth c.args.elements.now) c.args.level in
     let o = c.loop-start.line in
     let start = c.loop-start.start in
     let end = c.run_end-end.result in
@@ -18,4 +18,4 @@ loop-start-preserved g c =
     )
 
 pub returns : goal.returns
-returns g c = all_passed (high (map g.E.Leveled.depth c.args.elements.now) c.args.k) c.loop-start.line c.loop-start.start c.loop-start-test.false ∙ c.loop-start.invariant.0
+returns g c = all_passed (high (map g.E.Leveled.depth c.args.elements.now) c.args.level) c.loop-start.line c.loop-start.start c.loop-start-test.false ∙ c.loop-start.invariant.0

@@ -1,5 +1,5 @@
 use Rattle.std.proofs.Common.{sym, ap, ◌∙◌, arith}
-use Rattle.paragraph.specs.Lent.{lent}
+use Rattle.paragraph.specs.Aheads.{text_at}
 use Rattle.walk.specs.Walk.{walked}
 use Rattle.walk.specs.declared.line.Walked.{Walked}
 use Rattle.walk.proofs.Puts.{in_order_long, turned_order}
@@ -8,7 +8,7 @@ use Rattle.walk.proofs.layout_spans.layout_spans.Goals as goal
 pub returns-then-not-is_forward : goal.returns-then-not-is_forward
 returns-then-not-is_forward g c =
     let way = c.args.direction in
-    let all = walked g.M.Measure c.args.m.now (lent c.args.tables) c.args.position c.args.rule way in
+    let all = walked g.M.Measure c.args.m.now (text_at c.args.ahead) c.args.ahead.position c.args.rule way in
     let line = c.walk_spans-line in
     let told_is = line.ensures.told in
     record {

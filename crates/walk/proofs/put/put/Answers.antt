@@ -10,7 +10,7 @@ returns c =
     let n = c.args.count in
     let r = c.args.range in
     let out = c.args.ranges.now in
-    let differ : same_place r.start r.end ≡ false = sym c.if-is_same.ensures in
+    let differ : same_place r.start r.end ≡ false = sym c.if-eq.ensures in
     let list : c.if-count-ranges.ranges ≡ set out n r =
     elim c.if-count-ranges.branch [
       | then-count-ranges w ↦ w.ranges-is

@@ -1,0 +1,11 @@
+// What is wrong with a call: one of a layer's causes.
+ghost use Rattle.std.specs.Prelude.{◌≡◌, ℕ, ◌≤◌};
+
+/// A cause of refusals, which is known by a number.
+pub trait Cause {
+    ghost number_of: { Self → ℕ };
+
+    /// The number of the refusal.
+    fn number(self) -> u8
+        ensures { result ≡ number_of self };
+}

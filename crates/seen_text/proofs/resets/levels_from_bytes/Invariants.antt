@@ -1,6 +1,0 @@
-use Rattle.std.proofs.Common.{◌≡◌, take, vec_items}
-use Rattle.seen_text.specs.Resets.{first_levels}
-use Rattle.seen_text.proofs.resets.levels_from_bytes.Given as goal
-
-abbrev pub invariant-loop-c : goal.invariant-loop-c
-invariant-loop-c l = vec_items l.levels ≡ first_levels l.bytes (take l.c-index l.characters)
