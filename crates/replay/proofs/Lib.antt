@@ -1,1 +1,1 @@
-mod Read
+mod Replayed

@@ -1,4 +1,7 @@
 // The lines, one after another.
+ghost use Rattle.replay.specs.Replaying.{Replayed};
+ghost use Rattle.std.specs.Prelude.{IfOk};
+
 use crate::tally::Tally;
 use std::alloc::{AllocGlobal, Global};
 use std::io::Read;
@@ -9,6 +12,7 @@ pub fn replay<A: Fn(Global, &str) -> anyhow::Result<bool>>(
     agrees: A,
 ) -> anyhow::Result<Tally>
     requires { A.IsAlwaysCallable agrees }
+    ensures { IfOk result (λ tally. Replayed (A.post agrees) usize.MAX tally.lines tally.differ) }
 {
     let mut text = String::new(rt.alloc());
     rt.reader().read_to_string(&mut text)?;
