@@ -1,5 +1,7 @@
 // Measures by their names in text: `points SIZE`, `lawless`, or `units` or `cells` and then up to 8 times `tracking SPACING`, the innermost first.
 // A size is a decimal number, or 0x and the bits of an f32 in hex.
+ghost use Rattle.std.specs.Prelude.{◌≡◌, ◌-◌};
+
 use crate::pile::Pile;
 use crate::words::Words;
 use measure::points::Points;
@@ -41,10 +43,17 @@ pub struct NameFault {
 /// The measure that a text names.
 pub fn read_measure(text: &str) -> Result<NamedMeasure, NameFault> {
     let mut words = Words::new(text);
-    read_named(&mut words).map_err(|cause| NameFault {
+    read_named(&mut words).map_err(|cause| fault(&words, cause))
+}
+
+// A cause, with the word last asked for.
+fn fault(words: &Words<'_>, cause: NameCause) -> NameFault
+    ensures { result ≡ record { cause = cause; word = words.now.read - 1 } }
+{
+    NameFault {
         cause,
         word: words.place(),
-    })
+    }
 }
 
 // What is wrong is so at the word last asked for.
