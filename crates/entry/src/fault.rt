@@ -24,6 +24,8 @@ pub enum CallCause {
 }
 
 impl Cause for CallCause {
+    const FAULT: &'static str = "CallFault";
+
     ghost number_of = { call_number };
 
     fn number(self) -> u8 {

@@ -14,6 +14,8 @@ pub enum ClassCause {
 }
 
 impl Cause for ClassCause {
+    const FAULT: &'static str = "ClassFault";
+
     ghost number_of = { number_of };
 
     fn number(self) -> u8 {

@@ -13,6 +13,8 @@ pub enum SettingCause {
 }
 
 impl Cause for SettingCause {
+    const FAULT: &'static str = "SettingFault";
+
     ghost number_of = { cause_number };
 
     fn number(self) -> u8 {

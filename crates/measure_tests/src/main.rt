@@ -10,9 +10,8 @@ use measure::cells::Cells;
 use measure::layered::Layered;
 use measure::measure::Measure;
 use measure::rows::row_width;
-use measure::settings::SettingFault;
 use measure::units::Units;
-use measure_text::named::{NameCause, NameFault, NamedMeasure, read_measure};
+use measure_text::named::{NamedMeasure, read_measure};
 use nested::nested_number;
 use std::fmt::Display;
 use std::io;
@@ -62,25 +61,13 @@ where
     println!(rt; "{name}: {width}")
 }
 
-// Why a text names no measure, with a refused setting under a name that says what it is.
-fn report_fault(rt: &HostRuntime, name: &str, fault: NameFault) -> io::Result<()> {
-    let NameCause::Setting(refused) = fault.cause else {
-        return println!(rt; "{name}: {fault:?}");
-    };
-    let SettingFault { cause, row, table } = refused;
-    let word = fault.word;
-    println!(rt;
-        "{name}: NameFault {{ cause: Setting(SettingFault {{ cause: {cause:?}, row: {row}, table: {table:?} }}), word: {word} }}"
-    )
-}
-
 fn report_named(rt: &HostRuntime, name: &str) -> io::Result<()> {
     match read_measure(name) {
         Ok(NamedMeasure::Points(points)) => report(rt, name, &points),
         Ok(NamedMeasure::Units(pile)) => report(rt, name, &Layered::of(pile, Units)),
         Ok(NamedMeasure::Cells(pile)) => report(rt, name, &Layered::of(pile, Cells)),
         Ok(NamedMeasure::Lawless) => report(rt, name, &measure_text::lawless::Lawless),
-        Err(fault) => report_fault(rt, name, fault),
+        Err(fault) => println!(rt; "{name}: {fault:?}"),
     }
 }
 

@@ -21,6 +21,8 @@ pub enum TableCause {
 }
 
 impl Cause for TableCause {
+    const FAULT: &'static str = "TableFault";
+
     ghost number_of = { number_of };
 
     fn number(self) -> u8 {

@@ -3,6 +3,9 @@ ghost use Rattle.std.specs.Prelude.{◌≡◌, ℕ, ◌≤◌};
 
 /// A cause of refusals, which is known by a number.
 pub trait Cause {
+    /// The name under which a refusal with such a cause is shown by `{:?}`.
+    const FAULT: &'static str;
+
     ghost number_of: { Self → ℕ };
 
     /// The number of the refusal.

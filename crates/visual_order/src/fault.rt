@@ -16,6 +16,8 @@ pub enum OrderCause {
 }
 
 impl Cause for OrderCause {
+    const FAULT: &'static str = "OrderFault";
+
     ghost number_of = { cause_number };
 
     fn number(self) -> u8 {
