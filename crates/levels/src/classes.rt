@@ -56,6 +56,7 @@ impl TryFrom<u8> for BidiClass {
     ghost try_from_gives = { λ code r. result_ok r ≡ from_code code };
 
     fn try_from(code: u8) -> Result<BidiClass, UnknownClass> {
+        // A match by hand, as in `from_str` below: no derive reads a variant by its number or its name.
         match code {
             0 => Ok(BidiClass::L),
             1 => Ok(BidiClass::R),
