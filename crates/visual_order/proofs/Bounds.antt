@@ -1,5 +1,5 @@
 -- The highest level and the lowest odd level
-use Rattle.std.proofs.Common.{◌≡◌, ℕ, zero, suc, ◌+◌, ◌%◌, ◌<◌, ◌≤◌, min, max, Bool, true, false, cond, eqb, ◌==◌, ◌⊎◌, List, [], ◌∷◌, length, get_or, fold, Some, unwrap_or, refl, ap, ◌∙◌, subst, inl, inr, ⊎_elim, arith}
+use Rattle.std.proofs.Common.{◌≡◌, ℕ, zero, suc, ◌+◌, ◌%◌, ◌<◌, ◌≤◌, min, max, Bool, true, false, cond, eqb, ◌==◌, ◌⊎◌, List, [], ◌∷◌, length, get_or, fold, Some, None, Option, unwrap_or, refl, ap, ◌∙◌, subst, inl, inr, ⊎_elim, arith}
 use Rattle.std.proofs.lemmas.Bool.{eqb-true, cond_both, cond-true, eq-eqb, cases_lt}
 use Rattle.std.specs.List.{filter, reduce}
 use Rattle.visual_order.specs.VisualOrder.{highest, lowest_odd, lower_odd}
@@ -77,10 +77,12 @@ module _ (none : ℕ) where
           rw t (ap (λ (n : ℕ). fold min n (filter odd levels)) same)
       by_test rest false t = rw t rest
 
-pub lowest_odd_found : (levels : List ℕ) → lowest_odd (highest levels + 1) levels ≡ unwrap_or (reduce min (filter (λ level. level % 2 == 1) levels)) (highest levels + 1)
-lowest_odd_found levels =
-    let none = highest levels + 1 in
+found_or : (levels : List ℕ) (none : ℕ) → highest levels < none → lowest_odd none levels ≡ unwrap_or (reduce min (filter odd levels)) none
+found_or levels none below =
     folded_odd none levels none (omega arith) ∙ folded_found none levels (λ k l. omega (arith, highest_is levels k l))
+
+pub lowest_odd_found : (levels : List ℕ) → lowest_odd (highest levels + 1) levels ≡ unwrap_or (reduce min (filter (λ level. level % 2 == 1) levels)) (highest levels + 1)
+lowest_odd_found levels = found_or levels (highest levels + 1) (omega arith)
 
 least_from : (levels : List ℕ) (low : ℕ) → fold min low levels ≤ low
 least_from [] low = omega arith
@@ -100,3 +102,19 @@ module _ (top low : ℕ) where
 
 pub lowest_odd_within : (levels : List ℕ) (low : ℕ) → reduce min (filter (λ level. level % 2 == 1) levels) ≡ Some low → low ≤ highest levels
 lowest_odd_within levels low e = found_within (highest levels) low levels (highest_is levels) e
+
+-- What a fold over a number above them all finds is the lowest odd level if it is below that number, and else there is none
+module _ (levels : List ℕ) (none low : ℕ) (below : highest levels < none) (is : low ≡ lowest_odd none levels) where
+  some_from : (o : Option ℕ) → low < none → low ≡ unwrap_or o none → Some low ≡ o
+  some_from None less e = absurd (omega arith)
+  some_from (Some x) less e = ap Some e
+
+  none_from : (o : Option ℕ) → reduce min (filter odd levels) ≡ o → none ≤ low → low ≡ unwrap_or o none → None ≡ o
+  none_from None r above e = refl
+  none_from (Some x) r above e = absurd (omega (arith, lowest_odd_within levels x r))
+
+  pub lowest_odd_below : low < none → Some low ≡ reduce min (filter (λ level. level % 2 == 1) levels)
+  lowest_odd_below less = some_from (reduce min (filter odd levels)) less (is ∙ found_or levels none below)
+
+  pub lowest_odd_above : none ≤ low → None ≡ reduce min (filter (λ level. level % 2 == 1) levels)
+  lowest_odd_above above = none_from (reduce min (filter odd levels)) refl above (is ∙ found_or levels none below)

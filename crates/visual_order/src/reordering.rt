@@ -28,10 +28,12 @@ fn arrange<E: Leveled>(elements: &[E], line: &mut [usize])
     ensures { line.new ≡ visual (map E.Leveled.depth elements.now) }
 {
     number_places(line);
-    let Some(low) = lowest_odd_level(elements) else {
+    let Some(top) = highest_level(elements) else {
         return;
     };
-    let top = highest_level(elements).unwrap();
+    let Some(low) = lowest_odd_level(elements, top) else {
+        return;
+    };
     for level in (low..=top).rev() {
         reverse_runs(elements, line, level);
     }
