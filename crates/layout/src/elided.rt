@@ -34,18 +34,34 @@ pub fn glyphs_of_range<'a>(tables: Tables<'a>, range: VlRange) -> &'a [Glyph]
     tables.glyphs.get(start..end).unwrap_or(&[])
 }
 
+/// The largest end byte of some glyphs, 0 if there are none.
+pub fn largest_end(glyphs: &[Glyph]) -> usize
+    ensures { result ≡ largest_end glyphs.now }
+{
+    glyphs
+        .iter()
+        .fold(0, |largest: usize, g| largest.max(g.end as usize))
+}
+
+/// The smallest start byte of some glyphs, the largest that there can be if there are none.
+pub fn smallest_start(glyphs: &[Glyph]) -> usize
+    ensures { result ≡ smallest_start glyphs.now }
+{
+    glyphs.iter().fold(65_535, |smallest: usize, g| smallest.min(g.start as usize))
+}
+
 /// The largest end byte of some glyphs, if there are any.
-pub fn largest_end(glyphs: &[Glyph]) -> Option<usize>
+pub fn largest_end_if_any(glyphs: &[Glyph]) -> Option<usize>
     ensures { result ≡ if_any largest_end glyphs.now }
 {
-    glyphs.iter().map(|g| g.end as usize).max()
+    (!glyphs.is_empty()).then(|| largest_end(glyphs))
 }
 
 /// The smallest start byte of some glyphs, if there are any.
-pub fn smallest_start(glyphs: &[Glyph]) -> Option<usize>
+pub fn smallest_start_if_any(glyphs: &[Glyph]) -> Option<usize>
     ensures { result ≡ if_any smallest_start glyphs.now }
 {
-    glyphs.iter().map(|g| g.start as usize).min()
+    (!glyphs.is_empty()).then(|| smallest_start(glyphs))
 }
 
 /// The bytes that an ellipsis stands for between the ranges before it and those behind it. Where no glyph stands before it they begin at
@@ -61,12 +77,12 @@ pub fn elided_bytes(
     let last = before
         .iter()
         .rev()
-        .find_map(|r| largest_end(glyphs_of_range(tables, *r)));
+        .find_map(|r| largest_end_if_any(glyphs_of_range(tables, *r)));
     let first = behind
         .iter()
-        .find_map(|r| smallest_start(glyphs_of_range(tables, *r)));
+        .find_map(|r| smallest_start_if_any(glyphs_of_range(tables, *r)));
     ElidedBytes {
         start: last.unwrap_or(none_before),
-        end: first.unwrap_or_else(|| largest_end(tables.glyphs).unwrap_or(0)),
+        end: first.unwrap_or_else(|| largest_end(tables.glyphs)),
     }
 }
