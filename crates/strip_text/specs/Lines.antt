@@ -1,7 +1,6 @@
 -- An input's lines
-use Rattle.std.specs.Prelude.{ℕ, ◌+◌, ◌-◌, ◌^◌, min, List, map}
-use Rattle.std.specs.List.{enumerate_from}
+use Rattle.std.specs.Prelude.{ℕ, ◌+◌, ◌-◌, ◌^◌, min}
 
--- lines with their numbers, from 1 on, as far as numbers go
-abbrev pub numbered : List (List ℕ) → List (ℕ × List ℕ)
-numbered ls = map (λ p. (min (p.0 + 1) (2 ^ 64 - 1), p.1)) (enumerate_from 0 ls)
+-- the number of the line at a place among lines of which the first has this number, as far as numbers go
+abbrev pub number_at : ℕ → ℕ → ℕ
+number_at first place = min (first + place) (2 ^ 64 - 1)

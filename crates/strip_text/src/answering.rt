@@ -1,7 +1,7 @@
 // What is printed for an input.
 use crate::fault::InputFault;
 use crate::head::{Head, Opening, read_head};
-use crate::lines::{Line, read_text, split_lines};
+use crate::lines::{Lines, read_text, split_lines};
 use crate::performing::perform;
 use crate::steps::read_steps;
 use crate::width_text::WidthText;
@@ -19,7 +19,7 @@ use std::alloc::Global;
 fn answer_over<W: WidthText, M: Measure<Width = W> + Drop>(
     heap: Global,
     head: Head<'_>,
-    calls: &[Line<'_>],
+    calls: Lines<'_>,
     measure: M,
 ) -> Result<String, InputFault> {
     let steps = read_steps(heap, calls)?;
@@ -29,7 +29,7 @@ fn answer_over<W: WidthText, M: Measure<Width = W> + Drop>(
 // A refused measure is the whole answer, but what stands behind it has to be of the format.
 fn answer_refused(
     heap: Global,
-    calls: &[Line<'_>],
+    calls: Lines<'_>,
     fault: SettingFault,
 ) -> Result<String, InputFault> {
     match fault.table {
@@ -44,7 +44,7 @@ fn answer_refused(
 }
 
 // What is printed for one paragraph and its calls.
-fn answer_script(heap: Global, script: &[Line<'_>]) -> Result<String, InputFault> {
+fn answer_script(heap: Global, script: Lines<'_>) -> Result<String, InputFault> {
     let Opening {
         head,
         measure,
@@ -61,10 +61,17 @@ fn answer_script(heap: Global, script: &[Line<'_>]) -> Result<String, InputFault
 
 /// What is printed for an input: the answers of each of its paragraphs, with an empty line between them.
 pub fn answer(heap: Global, bytes: &[u8]) -> Result<String, InputFault> {
-    let lines = split_lines(heap, read_text(bytes)?)?;
+    let texts = split_lines(heap, read_text(bytes)?)?;
+    let mut lines = Lines {
+        first: 1,
+        texts: texts.as_slice(),
+    };
     let mut out = String::new(heap);
-    for script in lines.as_slice().split(|line| line.text.is_empty()) {
-        if script.is_empty() {
+    for script in texts.as_slice().split(|text| text.is_empty()) {
+        let count = script.len();
+        let script = lines.up_to(count);
+        lines = lines.behind(count);
+        if count == 0 {
             continue;
         }
         let block = answer_script(heap, script)?;

@@ -1,6 +1,6 @@
 // What stands before the calls: the text, the tables and the measure.
 use crate::fault::{FieldCause, InputFault, LineCause};
-use crate::lines::{Line, fault_at};
+use crate::lines::{Lines, fault_at};
 use crate::rows::{HeadLine, RawRow, read_head_line};
 use measure::settings::SettingFault;
 use measure_text::named::{NameCause, NamedMeasure, read_measure};
@@ -48,7 +48,7 @@ impl Head<'_> {
 pub(crate) struct Opening<'a> {
     pub head: Head<'a>,
     pub measure: Result<NamedMeasure, SettingFault>,
-    pub calls: &'a [Line<'a>],
+    pub calls: Lines<'a>,
 }
 
 // The measure that is named, or its refused setting, or why it is none of the format.
@@ -67,13 +67,11 @@ fn read_named(name: &str) -> Result<Result<NamedMeasure, SettingFault>, LineCaus
 }
 
 /// Reads the lines up to that of the measure.
-pub(crate) fn read_head<'a>(
-    heap: Global,
-    lines: &'a [Line<'a>],
-) -> Result<Opening<'a>, InputFault> {
+pub(crate) fn read_head<'a>(heap: Global, lines: Lines<'a>) -> Result<Opening<'a>, InputFault> {
     let mut text = None;
     let mut head = None;
-    for (i, line) in lines.iter().enumerate() {
+    for (i, text_line) in lines.texts.iter().enumerate() {
+        let line = lines.line(i, *text_line);
         if line.is_comment() {
             continue;
         }
@@ -82,7 +80,7 @@ pub(crate) fn read_head<'a>(
             return Ok(Opening {
                 head: head.ok_or(line.fault(LineCause::OutOfPlace))?,
                 measure: read_named(name).map_err(|cause| line.fault(cause))?,
-                calls: &lines[i + 1..],
+                calls: lines.behind(i),
             });
         }
         match (read, &mut head) {
@@ -101,6 +99,5 @@ pub(crate) fn read_head<'a>(
             _ => return Err(line.fault(LineCause::OutOfPlace)),
         }
     }
-    let end = lines.last().map_or(0, |line| line.number);
-    Err(fault_at(end.saturating_add(1), LineCause::NoMeasureYet))
+    Err(fault_at(lines.end(), LineCause::NoMeasureYet))
 }

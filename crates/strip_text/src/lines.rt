@@ -1,7 +1,7 @@
 // An input as lines.
-ghost use Rattle.std.specs.Prelude.{◌≡◌, ◌==◌, ◌+◌, take, count_by, map, IfOk};
+ghost use Rattle.std.specs.Prelude.{◌≡◌, ◌==◌, ◌+◌, take, drop, count_by, length, map, IfOk};
 ghost use Rattle.std.specs.Str.Lines.{lines};
-ghost use Rattle.strip_text.specs.Lines.{numbered};
+ghost use Rattle.strip_text.specs.Lines.{number_at};
 
 use crate::fault::{InputFault, LineCause, LineFault};
 use std::alloc::{AllocError, Global};
@@ -47,14 +47,58 @@ pub(crate) fn read_text(bytes: &[u8]) -> Result<&str, InputFault>
 }
 
 /// The lines of a text.
-pub(crate) fn split_lines(heap: Global, text: &str) -> Result<Vec<Line<'_>>, AllocError>
-    ensures { IfOk result (λ all. map (λ line. (line.number, line.text.now)) all.items ≡ numbered (lines text.now)) }
+pub(crate) fn split_lines(heap: Global, text: &str) -> Result<Vec<&str>, AllocError>
+    ensures { IfOk result (λ all. map (λ line. line.now) all.items ≡ lines text.now) }
 {
-    text.lines()
-        .enumerate()
-        .map(|(i, text)| Line {
-            number: i.saturating_add(1),
+    text.lines().collect(heap)
+}
+
+/// Lines of an input, one after another, and the number of the first. A line's number follows from its place among them: kept beside each line, the
+/// numbers would take half as much memory again.
+#[derive(Clone, Copy)]
+pub(crate) struct Lines<'a> {
+    pub first: usize,
+    pub texts: &'a [&'a str],
+}
+
+impl<'a> Lines<'a> {
+    /// The line with this text, at this place among them.
+    pub fn line(self, place: usize, text: &'a str) -> Line<'a>
+        ensures number { result.number ≡ number_at self.entry.first place }
+        ensures text { result.text.now ≡ text.now }
+    {
+        Line {
+            number: self.first.saturating_add(place),
             text,
-        })
-        .collect(heap)
+        }
+    }
+
+    /// The first so many lines.
+    pub fn up_to(self, count: usize) -> Lines<'a>
+        ensures first { result.first ≡ self.entry.first }
+        ensures texts { result.texts.now ≡ take count self.entry.texts.now }
+    {
+        Lines {
+            first: self.first,
+            texts: &self.texts[..count.min(self.texts.len())],
+        }
+    }
+
+    /// The lines behind the first so many and one more, which stands between.
+    pub fn behind(self, count: usize) -> Lines<'a>
+        ensures first { result.first ≡ number_at self.entry.first (count + 1) }
+        ensures texts { result.texts.now ≡ drop (count + 1) self.entry.texts.now }
+    {
+        Lines {
+            first: self.first.saturating_add(count).saturating_add(1),
+            texts: self.texts.get(count.saturating_add(1)..).unwrap_or(&[]),
+        }
+    }
+
+    /// The number of the line behind the last.
+    pub fn end(self) -> usize
+        ensures { result ≡ number_at self.entry.first (length self.entry.texts.now) }
+    {
+        self.first.saturating_add(self.texts.len())
+    }
 }

@@ -1,7 +1,7 @@
 // The lines of calls.
 use crate::fault::{Choices, InputFault, LineCause};
 use crate::fields::Fields;
-use crate::lines::Line;
+use crate::lines::Lines;
 use crate::width_text::WidthText;
 use entry::call::Call;
 use layout::line::Ellipsize;
@@ -71,10 +71,11 @@ pub(crate) fn read_step<W: WidthText>(line: &str) -> Result<Step<W>, LineCause> 
 /// Reads the lines behind the measure.
 pub(crate) fn read_steps<W: WidthText>(
     heap: Global,
-    lines: &[Line<'_>],
+    lines: Lines<'_>,
 ) -> Result<Vec<Step<W>>, InputFault> {
     let mut steps = Vec::new(heap);
-    for line in lines {
+    for (i, text) in lines.texts.iter().enumerate() {
+        let line = lines.line(i, *text);
         if !line.is_comment() {
             steps.push(read_step(line.text).map_err(|cause| line.fault(cause))?)?;
         }
