@@ -131,7 +131,7 @@ module _ {S W : Type 0} (k : Ghosts S W) (m : S) (t : Text) (p : Position) (rule
       part_small way l first count =
           let a = ahead_of t p s in
           let n_small : words_in a ≤ 4096 = omega (arith, ahead_words, span_ends_within t sound s, sound.few_words) in
-          let both = in_span_small (span_at t s) a (goes_up t.direction (span_at t s) way) first count l.width k.NIL l.blanks l.laid a.start.word (words_in a) inside in
+          let both = in_span_small (span_at t s) a (goes_up t.direction (span_at t s) way) first count l.width (k.nil_of m) l.blanks l.laid a.start.word (words_in a) inside in
           (omega (arith, both.0), omega (arith, both.1))
 
       part_ends : (l : Lay W) (first count : ℕ) → place_in t (span_at t s) (end_of (congruent t.direction (span_at t s).level) (part_of k m t p rule Forward l s first count).stretch) ≡ true
@@ -140,7 +140,7 @@ module _ {S W : Type 0} (k : Ghosts S W) (m : S) (t : Text) (p : Position) (rule
           let c = congruent t.direction (span_at t s).level in
           let up = goes_up t.direction (span_at t s) Forward in
           let e : up ≡ c = up_is c in
-          let own = in_span_ends (span_at t s) a up first count l.width k.NIL l.blanks l.laid a.start.word (words_in a) inside ahead_words (subst (λ (b : Bool). place_in t (span_at t s) (end_of b a) ≡ true) (sym e) ahead_ends) in
+          let own = in_span_ends (span_at t s) a up first count l.width (k.nil_of m) l.blanks l.laid a.start.word (words_in a) inside ahead_words (subst (λ (b : Bool). place_in t (span_at t s) (end_of b a) ≡ true) (sym e) ahead_ends) in
           subst (λ (b : Bool). place_in t (span_at t s) (end_of b (part_of k m t p rule Forward l s first count).stretch) ≡ true) e own
 
     walks_small : (way : LayoutDirection) (l : Lay W) (at n : ℕ) → at + n ≤ length t.spans → ((walks k m t p rule way l at n).blanks ≤ l.blanks + 4096 * n) × ((walks k m t p rule way l at n).laid ≤ l.laid + 67108864 * n)

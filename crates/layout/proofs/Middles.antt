@@ -44,13 +44,13 @@ pub record First {S W : Type 0} (k : Ghosts S W) (m : S) (t : Text) (p : Positio
   pub few_glyphs : first.laid ≤ 17179869184
 
 module _ {S W : Type 0} (k : Ghosts S W) (m : S) (t : Text) (p : Position) (width : W) where
-  half_is : (h z : W) → h ≡ k.half_of m width → z ≡ k.NIL → lay k m t p (Closing h z) Forward ≡ first_half k m t p width
+  half_is : (h z : W) → h ≡ k.half_of m width → z ≡ k.nil_of m → lay k m t p (Closing h z) Forward ≡ first_half k m t p width
   half_is h z h_is z_is = ap (λ (x : W). lay k m t p (Closing x z) Forward) h_is ∙ ap (λ (x : W). lay k m t p (Closing (k.half_of m width) x) Forward) z_is
 
-  pub first_walk : Sound t → exists t p ≡ true → {h z : W} → h ≡ k.half_of m width → z ≡ k.NIL → (before : List VlRange) {after : List VlRange} {first : Walked W} → first ≡ told (lay k m t p (Closing h z) Forward) → first.ranges ≤ length t.spans - p.span → after ≡ (lay k m t p (Closing h z) Forward).ranges ++ drop first.ranges before →
+  pub first_walk : Sound t → exists t p ≡ true → {h z : W} → h ≡ k.half_of m width → z ≡ k.nil_of m → (before : List VlRange) {after : List VlRange} {first : Walked W} → first ≡ told (lay k m t p (Closing h z) Forward) → first.ranges ≤ length t.spans - p.span → after ≡ (lay k m t p (Closing h z) Forward).ranges ++ drop first.ranges before →
       {last : VlRange} → Some last ≡ slice_get (take first.ranges after) (length (take first.ranges after) - 1) → {cut : Position} → cut ≡ ends_at t last.span last → First k m t p width first before after last cut
   first_walk sound stands {h} {z} h_is z_is before {after} {first} told_is few_is written_is {last} last_is {cut} cut_is =
-      let rule = Closing (k.half_of m width) k.NIL in
+      let rule = Closing (k.half_of m width) (k.nil_of m) in
       let half = half_is h z h_is z_is in
       let is : first ≡ told (first_half k m t p width) = told_is ∙ ap told half in
       let written = written_is ∙ ap (λ (l : Lay W). l.ranges ++ drop first.ranges before) half in
@@ -89,7 +89,7 @@ module _ {S W : Type 0} (k : Ghosts S W) (m : S) (t : Text) (p : Position) (widt
   -- that, and `out` what the second did
   module _
       (none : ℕ) {first second : Walked W} (before after out : List VlRange) {last : VlRange} {cut : Position} {left nil : W} (here : First k m t p width first before after last cut) (flagged : first.flagged ≡ true) (room : first.ranges < length after)
-      (left_is : left ≡ k.difference_of m (k.difference_of m width first.width) ellipsis) (nil_is : nil ≡ k.NIL) (second_is : second ≡ told (lay k m t cut (Closing left nil) Backward))
+      (left_is : left ≡ k.difference_of m (k.difference_of m width first.width) ellipsis) (nil_is : nil ≡ k.nil_of m) (second_is : second ≡ told (lay k m t cut (Closing left nil) Backward))
       (is : out ≡ take (first.ranges + 1) after ++ ((lay k m t cut (Closing left nil) Backward).ranges ++ drop second.ranges (drop (first.ranges + 1) after)))
     where
       fst : Lay W
@@ -113,7 +113,7 @@ module _ {S W : Type 0} (k : Ghosts S W) (m : S) (t : Text) (p : Position) (widt
             width = k.sum_of m (k.sum_of m fst.width s.width) ellipsis;
           }
 
-      second_half : lay k m t (ends_at t last.span last) (Closing (k.difference_of m (k.difference_of m width fst.width) ellipsis) k.NIL) Backward ≡ snd
+      second_half : lay k m t (ends_at t last.span last) (Closing (k.difference_of m (k.difference_of m width fst.width) ellipsis) (k.nil_of m)) Backward ≡ snd
       unfolding fst snd
       second_half =
           let l : left ≡ k.difference_of m (k.difference_of m width fst.width) ellipsis = left_is ∙ ap (λ (x : W). k.difference_of m (k.difference_of m width x) ellipsis) (width_is fst first here.first_is) in

@@ -18,7 +18,7 @@ module _ {S W : Type 0} (k : Ghosts S W) (m : S) (t : Text) (p : Position) (widt
 
   -- the first walk: forward on half the width, with no room for the ellipsis
   abbrev pub first_half : Lay W
-  first_half = lay k m t p (Closing (k.half_of m width) k.NIL) Forward
+  first_half = lay k m t p (Closing (k.half_of m width) (k.nil_of m)) Forward
 
   -- the line where that one overflows
   abbrev pub parted_line : W → Line W

@@ -74,7 +74,7 @@ module _ {S W : Type 0} (k : Ghosts S W) (m : S) (t : Text) (p : Position) where
     halves first None =
         record { front = []; ellipsis = Some (paragraph_level t.direction); back = []; blanks = 0; laid = 0; width = ellipsis }
     halves first (Some r) =
-        let second = lay k m t (ends_at t r.span r) (Closing (k.difference_of m (k.difference_of m width first.width) ellipsis) k.NIL) Backward in
+        let second = lay k m t (ends_at t r.span r) (Closing (k.difference_of m (k.difference_of m width first.width) ellipsis) (k.nil_of m)) Backward in
         record {
           front = first.ranges;
           ellipsis = Some (level_between t.direction (Some r) (first_of second.ranges));
@@ -89,7 +89,7 @@ module _ {S W : Type 0} (k : Ghosts S W) (m : S) (t : Text) (p : Position) where
     abbrev pub middle_line : Line W
     middle_line =
         let trial = lay k m t p (Closing width ellipsis) Forward in
-        let first = lay k m t p (Closing (k.half_of m width) k.NIL) Forward in
+        let first = lay k m t p (Closing (k.half_of m width) (k.nil_of m)) Forward in
         cond (not trial.flagged && not (k.over_of m trial.width width)) (plain trial)
         (cond first.flagged (halves first (last_of first.ranges)) (plain first))
 

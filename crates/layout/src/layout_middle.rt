@@ -131,7 +131,7 @@ impl<M: Measure> Closing<'_, M> {
         let half = m.half(width);
         let rule = Rule::Closing {
             width: half,
-            ellipsis: M::NIL,
+            ellipsis: m.zero(),
         };
         let first = layout_spans(m, self.ahead, LayoutDirection::Forward, rule, ranges);
         if !first.flagged {
@@ -143,7 +143,7 @@ impl<M: Measure> Closing<'_, M> {
         };
         let rule = Rule::Closing {
             width: m.difference(m.difference(width, first.width), self.ellipsis),
-            ellipsis: M::NIL,
+            ellipsis: m.zero(),
         };
         let tables = self.ahead.tables;
         let cut = Ahead {

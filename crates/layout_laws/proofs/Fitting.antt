@@ -89,13 +89,13 @@ module _ {S W : Type 0} (k : Ghosts S W) (m : S) (number : W → ℕ) (glyph : G
 
     module _ (wide : number width < all) where
       abbrev half_rule : Rule W
-      half_rule = Closing (k.half_of m width) k.NIL
+      half_rule = Closing (k.half_of m width) (k.nil_of m)
 
       abbrev first_half : Lay W
       first_half = lay k m t p half_rule Forward
 
-      first_closes : ClosingLaw number glyph t p (k.half_of m width) k.NIL first_half
-      first_closes = closing_law k m number glyph from exact t sound p here (k.half_of m width) k.NIL Forward (omega (arith, exact.nilled))
+      first_closes : ClosingLaw number glyph t p (k.half_of m width) (k.nil_of m) first_half
+      first_closes = closing_law k m number glyph from exact t sound p here (k.half_of m width) (k.nil_of m) Forward (omega (arith, exact.nilled))
 
       first_flagged : first_half.flagged ≡ true
       first_flagged = first_closes.flagged_when ∙ lt-ltb (number (k.half_of m width)) all (omega (arith, exact.half_low width))
@@ -113,7 +113,7 @@ module _ {S W : Type 0} (k : Ghosts S W) (m : S) (number : W → ℕ) (glyph : G
           left = k.difference_of m (k.difference_of m width first_half.width) ellipsis
 
           second : Lay W
-          second = lay k m t (ends_at t r.span r) (Closing left k.NIL) Backward
+          second = lay k m t (ends_at t r.span r) (Closing left (k.nil_of m)) Backward
 
           whole_sum : all ≡ adds_up glyph t (shown t first_half.ranges) + adds_up glyph t (ahead t (ends_at t r.span r))
           whole_sum =
@@ -121,11 +121,11 @@ module _ {S W : Type 0} (k : Ghosts S W) (m : S) (number : W → ℕ) (glyph : G
               ∙ sum_by-append _ (shown t first_half.ranges) rest
               ∙ ap (λ (is : List ℕ). adds_up glyph t (shown t first_half.ranges) + adds_up glyph t is) (sym (ends.last_ends r e).3)
 
-          second_closes : ClosingLaw number glyph t (ends_at t r.span r) left k.NIL second
-          second_closes = closing_law k m number glyph from exact t sound (ends_at t r.span r) there left k.NIL Backward (omega (arith, exact.nilled, whole_sum))
+          second_closes : ClosingLaw number glyph t (ends_at t r.span r) left (k.nil_of m) second
+          second_closes = closing_law k m number glyph from exact t sound (ends_at t r.span r) there left (k.nil_of m) Backward (omega (arith, exact.nilled, whole_sum))
 
           second_sum : adds_up glyph t (shown t second.ranges) ≤ adds_up glyph t (ahead t (ends_at t r.span r))
-          second_sum = omega (arith, parted_sum glyph t (ends_at t r.span r) Backward second (walk_law k m t (ends_at t r.span r) (Closing left k.NIL) sound there Backward))
+          second_sum = omega (arith, parted_sum glyph t (ends_at t r.span r) Backward second (walk_law k m t (ends_at t r.span r) (Closing left (k.nil_of m)) sound there Backward))
 
           room_left : number left ≡ number width - number first_half.width - number ellipsis
           room_left =
@@ -150,7 +150,7 @@ module _ {S W : Type 0} (k : Ghosts S W) (m : S) (number : W → ℕ) (glyph : G
         trial = walk Forward
 
         first : Lay W
-        first = lay k m t p (Closing (k.half_of m width) k.NIL) Forward
+        first = lay k m t p (Closing (k.half_of m width) (k.nil_of m)) Forward
 
         rest : Line W
         rest = cond first.flagged (halves k m t p width ellipsis first (last_of first.ranges)) (plain first)

@@ -112,7 +112,7 @@ module _ {S W : Type 0} (k : Ghosts S W) (m : S) (t : Text) (p : Position) (soun
     halves_law first rest ends law (Some r) e =
         let (s, span_is, there, is-rest) = ends.last_ends r e in
         let q = ends_at t r.span r in
-        let rule = Closing (k.difference_of m (k.difference_of m width first.width) ellipsis) k.NIL in
+        let rule = Closing (k.difference_of m (k.difference_of m width first.width) ellipsis) (k.nil_of m) in
         let second = laws rule Backward q there in
         let (from, below, reached) = last_reaches t p.span (length t.spans) s first.ranges r e span_is law.ranges_in in
         line_law t p sound here (halves k m t p width ellipsis first (Some r)) second.leaves s
@@ -129,7 +129,7 @@ module _ {S W : Type 0} (k : Ghosts S W) (m : S) (t : Text) (p : Position) (soun
     trial = lay k m t p (Closing width ellipsis) Forward
 
     abbrev half_rule : Rule W
-    half_rule = Closing (k.half_of m width) k.NIL
+    half_rule = Closing (k.half_of m width) (k.nil_of m)
 
     abbrev first_half : Lay W
     first_half = lay k m t p half_rule Forward

@@ -19,7 +19,7 @@ module _ {S W : Type 0} (k : Ghosts S W) (m : S) (t : Text) (p : Position) (way 
       (λ R blanks laid at n so e. absurd cc)
       (λ R laid at n so e. tt)
       (λ R blanks laid at so. refl)
-      k.NIL l.blanks l.laid (ahead_of t p s).start.word (words_in (ahead_of t p s)) tt
+      (k.nil_of m) l.blanks l.laid (ahead_of t p s).start.word (words_in (ahead_of t p s)) tt
 
   pub never_flagged : (lay k m t p Never way).flagged ≡ false
   never_flagged =

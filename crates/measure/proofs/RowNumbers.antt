@@ -22,7 +22,7 @@ module _ {S W : Type 0} {k : Ghosts S W} {m : S} {number : W → ℕ} {glyph : G
   glyphs_within (g ∷ gs) = omega (arith, sum_by-cons glyph g gs, e.small g, glyphs_within gs)
 
   pub row_meant : (gs : List Glyph) → row_number glyph gs < 2 ^ 32 → number (row_width k m gs) ≡ row_number glyph gs
-  row_meant gs h = omega (arith, e.nilled, glyphs_number k.NIL gs (omega (arith, e.nilled)))
+  row_meant gs h = omega (arith, e.nilled, glyphs_number (k.nil_of m) gs (omega (arith, e.nilled)))
 
   pub row_meant_few : (gs : List Glyph) → length gs ≤ 16400 → number (row_width k m gs) ≡ row_number glyph gs
   row_meant_few gs few = row_meant gs (omega (arith, glyphs_within gs))

@@ -9,7 +9,7 @@ use Rattle.measure.specs.declared.measure.Measure.{Ghosts}
 pub record Exact {S W : Type 0} (k : Ghosts S W) (m : S) (number : W → ℕ) (glyph : Glyph → ℕ) (from : ℕ → W) : Type 0 where
   pub small : (g : Glyph) → glyph g ≤ 131071
   pub meant : (g : Glyph) → number (k.width_of m g) ≡ glyph g
-  pub nilled : number k.NIL ≡ 0
+  pub nilled : number (k.nil_of m) ≡ 0
   pub sums : (a b : W) → number a + number b < 2 ^ 32 → number (k.sum_of m a b) ≡ number a + number b
   pub overs : (a b : W) → k.over_of m a b ≡ nat_lt (number b) (number a)
   pub differences : (a b : W) → number (k.difference_of m a b) ≡ number a - number b

@@ -28,6 +28,8 @@ impl<C: Counting> Measure for C {
 
     ghost NIL = { 0 };
 
+    ghost nil_of = { λ _. 0 };
+
     ghost width_of = { C.Counting.count_of };
 
     ghost sum_of = { λ _ a b. whole_sum a b };
@@ -39,6 +41,10 @@ impl<C: Counting> Measure for C {
     ghost half_of = { λ _ a. whole_half a };
 
     ghost lawful_of = { λ _ a. whole_lawful a };
+
+    fn zero(&self) -> u32 {
+        Self::NIL
+    }
 
     fn width(&self, g: &Glyph) -> u32 {
         self.count(g)

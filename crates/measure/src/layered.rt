@@ -28,6 +28,8 @@ impl<L: Layer, M: ExactMeasure> Measure for Layered<L, M> {
 
     ghost NIL = { M.Measure.NIL };
 
+    ghost nil_of = { λ t. M.Measure.nil_of t.inner };
+
     ghost width_of = { λ t g. M.ExactMeasure.width_of_number (L.Layer.changed t.layer (M.ExactMeasure.number_of_glyph t.inner g)) };
 
     ghost sum_of = { λ t. M.Measure.sum_of t.inner };
@@ -39,6 +41,10 @@ impl<L: Layer, M: ExactMeasure> Measure for Layered<L, M> {
     ghost half_of = { λ t. M.Measure.half_of t.inner };
 
     ghost lawful_of = { λ t. M.Measure.lawful_of t.inner };
+
+    fn zero(&self) -> M::Width {
+        self.inner.zero()
+    }
 
     fn width(&self, g: &Glyph) -> M::Width {
         self.inner.from_number(self.glyph_number(g))

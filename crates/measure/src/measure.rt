@@ -11,10 +11,12 @@ pub trait Measure {
     /// What a width is.
     type Width: Copy;
 
-    /// The width of nothing.
+    /// The width of nothing, as the type alone tells it. Nothing ties it to what `zero` answers.
     const NIL: Self::Width;
 
     ghost NIL: { Self.Width };
+
+    ghost nil_of: { Self → Self.Width };
 
     ghost width_of: { Self → Glyph → Self.Width };
 
@@ -27,6 +29,10 @@ pub trait Measure {
     ghost half_of: { Self → Self.Width → Self.Width };
 
     ghost lawful_of: { Self → Self.Width → Bool };
+
+    /// The nil of this measure. It may hang on the measure's settings, so code that is written over any measure asks this, and not `NIL`.
+    fn zero(&self) -> Self::Width
+        ensures { result ≡ nil_of self.now };
 
     /// A glyph's width.
     fn width(&self, g: &Glyph) -> Self::Width

@@ -39,6 +39,8 @@ impl Measure for Points {
 
     ghost NIL = { float_0 };
 
+    ghost nil_of = { λ _. float_0 };
+
     ghost width_of = { λ m g. point_width m.size g };
 
     ghost sum_of = { λ _ a b. add binary32 a b };
@@ -50,6 +52,10 @@ impl Measure for Points {
     ghost half_of = { λ _ a. point_half a };
 
     ghost lawful_of = { λ _ a. point_lawful a };
+
+    fn zero(&self) -> f32 {
+        Self::NIL
+    }
 
     fn width(&self, g: &Glyph) -> f32 {
         g.size.unwrap_or(self.size) * g.advance

@@ -11,7 +11,8 @@ use glyph::glyph::Glyph;
 pub fn row_width<M: Measure>(m: &M, row: &[Glyph]) -> M::Width
     ensures { result ≡ row_width M.Measure m.now row.now }
 {
-    row.iter().fold(M::NIL, |width, g| m.sum(width, m.width(g)))
+    row.iter()
+        .fold(m.zero(), |width, g| m.sum(width, m.width(g)))
 }
 
 /// The same on an exact measure, where the width means the sum of the glyphs' numbers while that stays below 2^32: always at 16,400 glyphs or fewer,

@@ -17,6 +17,8 @@ impl Measure for Short {
 
     ghost NIL = { 0 };
 
+    ghost nil_of = { λ _. 0 };
+
     ghost width_of = { λ _ g. g.units };
 
     ghost sum_of = { λ _ a b. min (a + b) 65535 };
@@ -28,6 +30,10 @@ impl Measure for Short {
     ghost half_of = { λ _ a. a / 2 };
 
     ghost lawful_of = { λ _ _. true };
+
+    fn zero(&self) -> u16 {
+        Self::NIL
+    }
 
     fn width(&self, g: &Glyph) -> u16 {
         g.units
@@ -65,6 +71,8 @@ impl Measure for Ems {
 
     ghost NIL = { neg (from_bits binary32 1065353216) };
 
+    ghost nil_of = { λ _. from_bits binary32 3212836864 };
+
     ghost width_of = { λ _ g. g.advance };
 
     ghost sum_of = { λ _ a b. add binary32 a b };
@@ -76,6 +84,10 @@ impl Measure for Ems {
     ghost half_of = { λ _ a. a };
 
     ghost lawful_of = { λ _ a. lt a a };
+
+    fn zero(&self) -> f32 {
+        Self::NIL
+    }
 
     fn width(&self, g: &Glyph) -> f32 {
         g.advance
@@ -115,6 +127,8 @@ impl Measure for Lawless {
 
     ghost NIL = { 5 };
 
+    ghost nil_of = { λ _. 5 };
+
     ghost width_of = { λ m g. bit_xor g.start m.key };
 
     ghost sum_of = { λ _ a b. bit_xor a b };
@@ -126,6 +140,10 @@ impl Measure for Lawless {
     ghost half_of = { λ m a. bit_xor a m.key };
 
     ghost lawful_of = { λ _ _. false };
+
+    fn zero(&self) -> u32 {
+        Self::NIL
+    }
 
     fn width(&self, g: &Glyph) -> u32 {
         u32::from(g.start) ^ self.key

@@ -16,6 +16,8 @@ impl Measure for Lawless {
 
     ghost NIL = { 7 };
 
+    ghost nil_of = { λ _. 7 };
+
     ghost width_of = { λ _ g. (31 * g.units + 17 * g.cells + 5) % 64 };
 
     ghost sum_of = { λ _ a b. (3 * a + b + 1) % 256 };
@@ -27,6 +29,10 @@ impl Measure for Lawless {
     ghost half_of = { λ _ a. 255 - a % 256 };
 
     ghost lawful_of = { λ _ a. not ((a % 4) == 1) };
+
+    fn zero(&self) -> u32 {
+        Self::NIL
+    }
 
     fn width(&self, g: &Glyph) -> u32 {
         (31 * u32::from(g.units) + 17 * u32::from(g.cells) + 5) % 64

@@ -13,7 +13,7 @@ use Rattle.walk.specs.declared.line.Rule.TheVariants.{Never, Closing, Taking}
 use Rattle.walk.proofs.Orders.{next_in, later_in}
 
 pub width_is : {S W : Type 0} (k : Ghosts S W) (m : S) (row : List Glyph) (i : ℕ) (d : Glyph) {x : W} → i < length row → x ≡ k.width_of m (get_or row i d) → x ≡ width_at k m row i
-width_is k m row i d h q = q ∙ sym (get_or-map (k.width_of m) row i d k.NIL h)
+width_is k m row i d h q = q ∙ sym (get_or-map (k.width_of m) row i d (k.nil_of m) h)
 
 -- at the glyph i, and then the places t
 module _ {S W : Type 0} (k : Ghosts S W) (m : S) (row : List Glyph) (up : Bool) {s t : Places} {i : ℕ} (f : Follows s t i) (as_up : s.up ≡ up) where
@@ -62,13 +62,13 @@ module _ {S W : Type 0} (k : Ghosts S W) (m : S) (row : List Glyph) (up : Bool) 
 
   pub cut_in : (rule : Rule W) (laid at n : ℕ) → (at ≤ (cut k m rule row up before laid at n).0) × ((cut k m rule row up before laid at n).0 ≤ at + n)
   cut_in Never laid at n = next_in up at n
-  cut_in (Closing width ellipsis) laid at n = fits_in (k.difference_of m width ellipsis) k.NIL at n
+  cut_in (Closing width ellipsis) laid at n = fits_in (k.difference_of m width ellipsis) (k.nil_of m) at n
   cut_in (Taking width) laid at zero = next_in up at zero
   cut_in (Taking width) laid at (suc n) =
-      let v = k.sum_of m k.NIL (width_at k m row (next up at n)) in
+      let v = k.sum_of m (k.nil_of m) (width_at k m row (next up at n)) in
       let on = fits_in width v (later up at) n in
       let l = later_in up at in
-      elim (eqb laid 0) as (λ b. (at ≤ (cond b (fits k m row up before width v (later up at) n) (next up at (suc n), k.NIL)).0) × ((cond b (fits k m row up before width v (later up at) n) (next up at (suc n), k.NIL)).0 ≤ at + suc n)) [
+      elim (eqb laid 0) as (λ b. (at ≤ (cond b (fits k m row up before width v (later up at) n) (next up at (suc n), k.nil_of m)).0) × ((cond b (fits k m row up before width v (later up at) n) (next up at (suc n), k.nil_of m)).0 ≤ at + suc n)) [
         | true ↦ (omega (arith, on.0, l.0), omega (arith, on.1, l.1))
         | false ↦ next_in up at (suc n)
       ]

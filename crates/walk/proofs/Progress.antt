@@ -47,7 +47,7 @@ pub record AtWord {S W : Type 0} (k : Ghosts S W) (m : S) (t : Text) (p : Positi
 -- what the walk lays of a span, where `line` is what it laid before
 abbrev pub all_of : {S W : Type 0} → Ghosts S W → S → Rule W → SpanAhead → Bool → Walked W → Places → Part W
 all_of k m rule own up line spans =
-    in_span k m (text_at own.ahead) own.ahead.position rule own.span own.stretch up spans.first spans.count line.width k.NIL line.blanks line.laid own.stretch.start.word (words_in own.stretch)
+    in_span k m (text_at own.ahead) own.ahead.position rule own.span own.stretch up spans.first spans.count line.width (k.nil_of m) line.blanks line.laid own.stretch.start.word (words_in own.stretch)
 
 -- the same, for what the code holds of a span
 abbrev pub AtRest : {S W : Type 0} → Ghosts S W → S → Rule W → SpanAhead → Bool → Walked W → Places → SpanPart W → Places → Type 0

@@ -25,7 +25,7 @@ use Rattle.walk.proofs.Puts.{counted_kept, counted_le, put_kept}
 
 module _ {S W : Type 0} (k : Ghosts S W) (m : S) (t : Text) (p : Position) (rule : Rule W) (way : LayoutDirection) (sound : Sound t) (stands : exists t p ≡ true) where
   -- before the first span
-  pub starts : (out : List VlRange) (line : Walked W) {at n : ℕ} → at ≡ p.span → n ≡ length t.spans - p.span → line ≡ record { ranges = 0; blanks = 0; laid = 0; width = k.NIL; flagged = false } → AtSpan k m t p rule way out out line at n
+  pub starts : (out : List VlRange) (line : Walked W) {at n : ℕ} → at ≡ p.span → n ≡ length t.spans - p.span → line ≡ record { ranges = 0; blanks = 0; laid = 0; width = k.nil_of m; flagged = false } → AtSpan k m t p rule way out out line at n
   starts out line {at} {n} at_is n_is is =
       record {
         ranges = [];

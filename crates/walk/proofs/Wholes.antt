@@ -30,7 +30,7 @@ module _ {S W : Type 0} (k : Ghosts S W) (m : S) (t : Text) (p : Position) (rule
       (λ _. span_whole sp a up first count T (k.sum_of m R (part_width k m t sp a w)) (cond word.blank (blanks + 1) blanks) (laid + part_size a w word) (later up at) n)
 
   part_whole : (l : Lay W) (s first count : ℕ) → (part_of k m t p rule Forward l s first count).flagged ≡ false → (part_of k m t p rule Forward l s first count).stretch ≡ ahead_of t p s
-  part_whole l s first count = span_whole (span_at t s) (ahead_of t p s) _ first count l.width k.NIL l.blanks l.laid (ahead_of t p s).start.word _
+  part_whole l s first count = span_whole (span_at t s) (ahead_of t p s) _ first count l.width (k.nil_of m) l.blanks l.laid (ahead_of t p s).start.word _
 
   walks_whole : (l : Lay W) (at n : ℕ) → (walks k m t p rule Forward l at n).flagged ≡ false → (walks k m t p rule Forward l at n).ranges ≡ whole_from t p l.ranges at n
   walks_whole l at zero = λ _. refl

@@ -23,15 +23,15 @@ tick_le false n = omega arith
 
 module _ {S W : Type 0} (k : Ghosts S W) (m : S) (t : Text) (p : Position) (rule : Rule W) (T : W) (sp : Span) (a : Stretch) (up : Bool) (first count : ℕ) where
   -- before the first word
-  pub enters : {part : SpanPart W} {ws : Places} (blanks laid : ℕ) → ws.up ≡ up → ws.first ≡ a.start.word → ws.count ≡ words_in a → part ≡ record { stretch = a; width = k.NIL; blanks = blanks; laid = laid; flagged = false } →
-      AtWord k m t p rule T sp a up first count (in_span k m t p rule sp a up first count T k.NIL blanks laid a.start.word (words_in a)) (blanks + words_in a) (laid + 16384 * words_in a) part ws
+  pub enters : {part : SpanPart W} {ws : Places} (blanks laid : ℕ) → ws.up ≡ up → ws.first ≡ a.start.word → ws.count ≡ words_in a → part ≡ record { stretch = a; width = k.nil_of m; blanks = blanks; laid = laid; flagged = false } →
+      AtWord k m t p rule T sp a up first count (in_span k m t p rule sp a up first count T (k.nil_of m) blanks laid a.start.word (words_in a)) (blanks + words_in a) (laid + 16384 * words_in a) part ws
   enters {part} {ws} blanks laid up_is first_is count_is is =
       record {
         as_up = up_is;
         reaches = (omega (arith, first_is), omega (arith, first_is, count_is));
         goes = ap (λ (q : SpanPart W). in_span k m t p rule sp a up first count T q.width q.blanks q.laid ws.first ws.count) is
-            ∙ ap (λ (i : ℕ). in_span k m t p rule sp a up first count T k.NIL blanks laid i ws.count) first_is
-            ∙ ap (λ (n : ℕ). in_span k m t p rule sp a up first count T k.NIL blanks laid a.start.word n) count_is;
+            ∙ ap (λ (i : ℕ). in_span k m t p rule sp a up first count T (k.nil_of m) blanks laid i ws.count) first_is
+            ∙ ap (λ (n : ℕ). in_span k m t p rule sp a up first count T (k.nil_of m) blanks laid a.start.word n) count_is;
         blanks = omega (arith, count_is, ap (λ (q : SpanPart W). q.blanks) is);
         laid = omega (arith, count_is, ap (λ (q : SpanPart W). q.laid) is);
         stretch_is = ap (λ (q : SpanPart W). q.stretch) is;

@@ -98,7 +98,7 @@ module _ {S W : Type 0} (k : Ghosts S W) (m : S) (t : Text) (p : Position) (rule
   part_of way l s first count =
       let sp = span_at t s in
       let a = ahead_of t p s in
-      in_span sp a (goes_up t.direction sp way) first count l.width k.NIL l.blanks l.laid a.start.word (words_in a)
+      in_span sp a (goes_up t.direction sp way) first count l.width (k.nil_of m) l.blanks l.laid a.start.word (words_in a)
 
   -- The walk, where the n spans from `at` on are still to walk: the first word that overflows ends it
   abbrev pub walks : LayoutDirection → Lay W → ℕ → ℕ → Lay W
@@ -109,7 +109,7 @@ module _ {S W : Type 0} (k : Ghosts S W) (m : S) (t : Text) (p : Position) (rule
       cond q.flagged (with_part l s q) (walks way (with_part l s q) (later (forward way) at) n)
 
   abbrev pub nothing : Lay W
-  nothing = record { ranges = []; blanks = 0; laid = 0; width = k.NIL; flagged = false }
+  nothing = record { ranges = []; blanks = 0; laid = 0; width = k.nil_of m; flagged = false }
 
   -- the whole walk, its ranges in the order in which it comes to them
   abbrev pub walked : LayoutDirection → Lay W

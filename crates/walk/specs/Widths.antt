@@ -35,7 +35,7 @@ module _ {S W : Type 0} (k : Ghosts S W) (m : S) where
 
   -- The words still to walk, added from nil: those of this span first, the n from `at` on, then the `count` spans from `first` on
   abbrev pub rest_width : Text → Position → Span → Stretch → ℕ → ℕ → ℕ → ℕ → W
-  rest_width t p sp a at n first count = spans_width t p (words_width t sp a k.NIL at n) first count
+  rest_width t p sp a at n first count = spans_width t p (words_width t sp a (k.nil_of m) at n) first count
 
   -- A word of width x with n glyphs ahead overflows, where `before` is T + R, the width of finished spans and of this span's walked words, and `rest`
   -- the words still to walk. By the closing rule it does if before + x is over the width, or if the rest is over the ellipsis and (before + x) +

@@ -50,19 +50,19 @@ pub fn cut_word<M: Measure>(
     ensures { result ≡ cut M.Measure m.now rule row.now places.up before laid places.first places.count }
 {
     match rule {
-        Rule::Never => (places.edge(), M::NIL),
+        Rule::Never => (places.edge(), m.zero()),
         Rule::Closing { width, ellipsis } => {
             let limit = m.difference(width, ellipsis);
-            fit_glyphs(m, row, places, before, limit, M::NIL)
+            fit_glyphs(m, row, places, before, limit, m.zero())
         }
         Rule::Taking { width } => {
             let mut left = places;
             match left.next() {
                 Some(i) if laid == 0 => {
-                    let taken = m.sum(M::NIL, m.width(&row[i]));
+                    let taken = m.sum(m.zero(), m.width(&row[i]));
                     fit_glyphs(m, row, left, before, width, taken)
                 }
-                _ => (places.edge(), M::NIL),
+                _ => (places.edge(), m.zero()),
             }
         }
     }

@@ -17,14 +17,14 @@ use measure::measure::Measure;
 use paragraph::ahead::Ahead;
 
 // A line with nothing on it.
-fn nothing<M: Measure>() -> Walked<M::Width>
-    ensures { result ≡ record { ranges = 0; blanks = 0; laid = 0; width = M.Measure.NIL; flagged = false } }
+fn nothing<M: Measure>(m: &M) -> Walked<M::Width>
+    ensures { result ≡ record { ranges = 0; blanks = 0; laid = 0; width = M.Measure.nil_of m.now; flagged = false } }
 {
     Walked {
         ranges: 0,
         blanks: 0,
         laid: 0,
-        width: M::NIL,
+        width: m.zero(),
         flagged: false,
     }
 }
@@ -42,7 +42,7 @@ fn walk_span<M: Measure>(
     requires few { line.blanks ≤ 2 ^ 20 }
     requires small { line.laid ≤ 2 ^ 34 }
     requires there { spans.first + spans.count ≤ length (text_at own.ahead).spans }
-    ensures exact { as_part result ≡ in_span M.Measure m.now (text_at own.entry.ahead) own.entry.ahead.position rule own.entry.span own.entry.stretch up spans.first spans.count line.width M.Measure.NIL line.blanks line.laid own.entry.stretch.start.word (words_in own.entry.stretch) }
+    ensures exact { as_part result ≡ in_span M.Measure m.now (text_at own.entry.ahead) own.entry.ahead.position rule own.entry.span own.entry.stretch up spans.first spans.count line.width (M.Measure.nil_of m.now) line.blanks line.laid own.entry.stretch.start.word (words_in own.entry.stretch) }
     ensures few { result.flagged ≡ false → result.blanks ≤ line.blanks + words_in own.entry.stretch }
     ensures small { result.flagged ≡ false → result.laid ≤ line.laid + 16384 * words_in own.entry.stretch }
 {
@@ -64,7 +64,7 @@ fn walk_spans<M: Measure>(
     ensures few { result.ranges ≤ length (text_at ahead.entry).spans - ahead.entry.position.span }
     ensures written { length (text_at ahead.entry).spans - ahead.entry.position.span ≤ length ranges.old → ranges.new ≡ (walked M.Measure m.now (text_at ahead.entry) ahead.entry.position rule direction).ranges ++ drop result.ranges ranges.old }
 {
-    let mut line = nothing::<M>();
+    let mut line = nothing(m);
     let mut spans = spans_of(ahead, direction.is_forward());
     while let Some(s) = spans.next() {
         let own = in_span(ahead, s);

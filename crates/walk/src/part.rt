@@ -32,12 +32,12 @@ pub fn cut_to(up: bool, stretch: Stretch, cut: Place) -> Stretch
 }
 
 /// All of a stretch of the next span, before its first word is walked: its width is counted from nil, the line's blanks and glyphs go on.
-pub fn unwalked<M: Measure>(line: Walked<M::Width>, stretch: Stretch) -> SpanPart<M::Width>
-    ensures { result ≡ record { stretch = stretch; width = M.Measure.NIL; blanks = line.blanks; laid = line.laid; flagged = false } }
+pub fn unwalked<M: Measure>(m: &M, line: Walked<M::Width>, stretch: Stretch) -> SpanPart<M::Width>
+    ensures { result ≡ record { stretch = stretch; width = M.Measure.nil_of m.now; blanks = line.blanks; laid = line.laid; flagged = false } }
 {
     SpanPart {
         stretch,
-        width: M::NIL,
+        width: m.zero(),
         blanks: line.blanks,
         laid: line.laid,
         flagged: false,

@@ -24,11 +24,11 @@ pub fn walk_whole<M: Measure>(
 ) -> SpanPart<M::Width>
     requires few { line.blanks ≤ 2 ^ 20 }
     requires small { line.laid ≤ 2 ^ 34 }
-    ensures exact { as_part result ≡ in_span M.Measure m.now (text_at own.entry.ahead) own.entry.ahead.position Never own.entry.span own.entry.stretch up spans.first spans.count line.width M.Measure.NIL line.blanks line.laid own.entry.stretch.start.word (words_in own.entry.stretch) }
+    ensures exact { as_part result ≡ in_span M.Measure m.now (text_at own.entry.ahead) own.entry.ahead.position Never own.entry.span own.entry.stretch up spans.first spans.count line.width (M.Measure.nil_of m.now) line.blanks line.laid own.entry.stretch.start.word (words_in own.entry.stretch) }
     ensures few { result.blanks ≤ line.blanks + words_in own.entry.stretch }
     ensures small { result.laid ≤ line.laid + 16384 * words_in own.entry.stretch }
 {
-    let mut part = unwalked::<M>(line, own.stretch);
+    let mut part = unwalked(m, line, own.stretch);
     let mut words = own.words(up);
     while let Some(w) = words.next() {
         let x = part_width(m, own, w);

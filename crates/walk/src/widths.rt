@@ -49,6 +49,6 @@ pub fn add_spans<M: Measure>(m: &M, ahead: Ahead<'_>, before: M::Width, spans: P
 pub fn rest_width<M: Measure>(m: &M, rest: Rest<'_>) -> M::Width
     ensures { result ≡ rest_width M.Measure m.now (text_at rest.entry.own.ahead) rest.entry.own.ahead.position rest.entry.own.span rest.entry.own.stretch rest.entry.words.first rest.entry.words.count rest.entry.spans.first rest.entry.spans.count }
 {
-    let own = add_words(m, rest.own, M::NIL, rest.words);
+    let own = add_words(m, rest.own, m.zero(), rest.words);
     add_spans(m, rest.own.ahead, own, rest.spans)
 }

@@ -72,7 +72,7 @@ module _ {S W : Type 0} (k : Ghosts S W) (m : S) (number : W → ℕ) (glyph : G
   row_most (suc n) (g ∷ gs) h = omega (arith, sum_by-cons glyph g gs, exact.small g, row_most n gs (omega arith))
 
   pub ellipsis_most : (gs : List Glyph) → length gs ≤ 16 → number (row_width k m gs) ≤ 2097136
-  ellipsis_most gs h = let most = row_most 16 gs h in omega (arith, row_number k m number glyph from exact k.NIL gs (omega (arith, exact.nilled)), exact.nilled)
+  ellipsis_most gs h = let most = row_most 16 gs h in omega (arith, row_number k m number glyph from exact (k.nil_of m) gs (omega (arith, exact.nilled)), exact.nilled)
 
   module _ (t : Text) (sound : Sound t) (p : Position) (here : exists t p ≡ true) where
     so_far_most : (i : ℕ) → so_far glyph t i ≤ 2147467264

@@ -128,13 +128,13 @@ module _ {S W : Type 0} (k : Ghosts S W) (m : S) (number : W → ℕ) (glyph : G
         room_is : number (k.difference_of m width ellipsis) ≡ number width - number ellipsis
         room_is = exact.differences width ellipsis
 
-        took : Took number (λ (i : ℕ). so_far glyph t (word.offset + i)) up (k.sum_of m T R) (k.difference_of m width ellipsis) k.NIL (low a w) (part_size a w word) got
-        took = fits_sum k m number glyph from exact t word up (k.sum_of m T R) (k.difference_of m width ellipsis) k.NIL (low a w) (part_size a w word) small_word.0 (omega (arith, small_word.2, exact.nilled))
+        took : Took number (λ (i : ℕ). so_far glyph t (word.offset + i)) up (k.sum_of m T R) (k.difference_of m width ellipsis) (k.nil_of m) (low a w) (part_size a w word) got
+        took = fits_sum k m number glyph from exact t word up (k.sum_of m T R) (k.difference_of m width ellipsis) (k.nil_of m) (low a w) (part_size a w word) small_word.0 (omega (arith, small_word.2, exact.nilled))
 
         width_is : number q.width ≡ number R + number got.1
         width_is = (going_cut k m number glyph from exact t sound p rule sp a part up T small R blanks laid at n going).0
 
-        by : (number (k.sum_of m T R) + number got.1 ≤ number (k.difference_of m width ellipsis)) ⊎ ((got.0 ≡ next up (low a w) (part_size a w word)) × (number got.1 ≡ number k.NIL)) → ClosedPart number t sp a up width ellipsis T q
+        by : (number (k.sum_of m T R) + number got.1 ≤ number (k.difference_of m width ellipsis)) ⊎ ((got.0 ≡ next up (low a w) (part_size a w word)) × (number got.1 ≡ number (k.nil_of m))) → ClosedPart number t sp a up width ellipsis T q
         by (inl l) = record {
           width_most = omega (arith, width_is, room_is, small_word.1, l);
           room = λ _. inl (omega (arith, width_is, room_is, small_word.1, l));

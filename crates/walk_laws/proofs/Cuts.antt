@@ -67,10 +67,10 @@ module _ {S W : Type 0} (k : Ghosts S W) (m : S) where
 
   pub cut_among : (rule : Rule W) (row : List Glyph) (up : Bool) (before : W) (laid at n : ℕ) → Among at n (cut k m rule row up before laid at n).0
   cut_among Never row up before laid at n = next_among up at n
-  cut_among (Closing width ellipsis) row up before laid at n = fits_among row up before (k.difference_of m width ellipsis) k.NIL at n
+  cut_among (Closing width ellipsis) row up before laid at n = fits_among row up before (k.difference_of m width ellipsis) (k.nil_of m) at n
   cut_among (Taking width) row up before laid at zero = next_among up at zero
   cut_among (Taking width) row up before laid at (suc n) =
-      let g = k.sum_of m k.NIL (width_at k m row (next up at n)) in
-      cond_both (eqb laid 0) (fits k m row up before width g (later up at) n) (next up at (suc n), k.NIL) (λ (q : ℕ × W). Among at (suc n) q.0)
+      let g = k.sum_of m (k.nil_of m) (width_at k m row (next up at n)) in
+      cond_both (eqb laid 0) (fits k m row up before width g (later up at) n) (next up at (suc n), k.nil_of m) (λ (q : ℕ × W). Among at (suc n) q.0)
       (λ _. later_among up at n _ (fits_among row up before width g (later up at) n))
       (λ _. next_among up at (suc n))

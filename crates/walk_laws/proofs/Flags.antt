@@ -129,12 +129,12 @@ module _ {S W : Type 0} (k : Ghosts S W) (m : S) (number : W → ℕ) (glyph : G
         part_by Then cuts ends =
             let sp = span_at t met_first in
             let a = ahead_of t p met_first in
-            let going = going_first k m number glyph from exact t sound p rule sp a part ups l.width part_small k.NIL exact.nilled in
+            let going = going_first k m number glyph from exact t sound p rule sp a part ups l.width part_small (k.nil_of m) exact.nilled in
             in_span_by k m t p rule sp a ups (later (forward way) at) n l.width (λ (R : W) (_ w c : ℕ). WithinHere R w c) Then
             cuts
             (λ R _ w c so e. within_on sp a part ups (later (forward way) at) n l.width part_small all_small R w c so e)
             ends
-            k.NIL l.blanks l.laid a.start.word (words_in a) (going, omega (arith, exact.nilled, fits))
+            (k.nil_of m) l.blanks l.laid a.start.word (words_in a) (going, omega (arith, exact.nilled, fits))
 
         -- flagged only if what is ahead passes the width, and else within it
         part_flag : ((first_part l at n).flagged ≡ false → number l.width + adds_up glyph t (held t (span_at t met_first) (ahead_of t p met_first)) ≤ most) × ((first_part l at n).flagged ≡ true → most < number l.width + adds_up glyph t (ahead_from t p at (suc n)))

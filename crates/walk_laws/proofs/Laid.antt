@@ -116,8 +116,8 @@ module _ {S W : Type 0} (k : Ghosts S W) (m : S) (number : W → ℕ) (glyph : G
         let rise = rises (later up at) (later up at + n) (omega arith) in
         let s = going_small R at (suc n) going in
         let bounds = still_bounds up a (later up at) n (still_later up a at n still) in
-        let own = words_number k m number glyph from exact t sp sound a part k.NIL (later up at) n bounds.0 bounds.1 (omega (arith, exact.nilled)) in
-        let rest = spans_number k m number glyph from exact t p sound here (words_width k m t sp a k.NIL (later up at) n) first count (omega (arith, exact.nilled)) in
+        let own = words_number k m number glyph from exact t sp sound a part (k.nil_of m) (later up at) n bounds.0 bounds.1 (omega (arith, exact.nilled)) in
+        let rest = spans_number k m number glyph from exact t p sound here (words_width k m t sp a (k.nil_of m) (later up at) n) first count (omega (arith, exact.nilled)) in
         (exact.sums T R s.0, omega (arith, exact.nilled))
 
     sum_cut : (u : Bool) (c : Place) → boundary t sp a.start ≤ boundary t sp c → boundary t sp c ≤ boundary t sp a.end → adds_up glyph t (held t sp (cut_to u a c)) ≡ passed u (so_far glyph t (boundary t sp a.start)) (so_far glyph t (boundary t sp c)) (so_far glyph t (boundary t sp a.end))
@@ -237,7 +237,7 @@ module _ {S W : Type 0} (k : Ghosts S W) (m : S) (number : W → ℕ) (glyph : G
       part_wide =
           let a = ahead_of t p s in
           let up = goes_up t.direction (span_at t s) way in
-          span_width (span_at t s) a (ahead_part t p here s) up l.width small first count k.NIL l.blanks l.laid a.start.word (words_in a) (going_first (span_at t s) a (ahead_part t p here s) up l.width small k.NIL exact.nilled)
+          span_width (span_at t s) a (ahead_part t p here s) up l.width small first count (k.nil_of m) l.blanks l.laid a.start.word (words_in a) (going_first (span_at t s) a (ahead_part t p here s) up l.width small (k.nil_of m) exact.nilled)
 
       -- the line with this part
       pub line_more : number (with_part k m t p rule l s laid_part).width ≡ number l.width + number laid_part.width

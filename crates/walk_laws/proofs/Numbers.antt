@@ -105,7 +105,7 @@ module _ {S W : Type 0} (k : Ghosts S W) (m : S) (number : W → ℕ) (glyph : G
           let s = sum_glyphs glyph t.glyphs (first_of t sp w + low a w) (first_of t sp w + high a w (size_of t sp w)) (omega (arith, word.low_high)) in
           let b = ap (so_far glyph t) word.begins in
           let e = ap (so_far glyph t) word.ends in
-          omega (arith, row_number k.NIL row (omega (arith, exact.nilled)), exact.nilled)
+          omega (arith, row_number (k.nil_of m) row (omega (arith, exact.nilled)), exact.nilled)
 
       pub words_number : (x : W) (at n : ℕ) → a.start.word ≤ at → at + n ≤ a.start.word + words_in a → number x + so_far glyph t (join t sp a (at + n)) < so_far glyph t (join t sp a at) + 2 ^ 32 → so_far glyph t (join t sp a at) + number (words_width k m t sp a x at n) ≡ number x + so_far glyph t (join t sp a (at + n))
       words_number x at zero i j h = let e : so_far glyph t (join t sp a at) ≡ so_far glyph t (join t sp a (at + 0)) = ap (λ (w : ℕ). so_far glyph t (join t sp a w)) (omega arith) in omega arith

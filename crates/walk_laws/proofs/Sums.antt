@@ -98,24 +98,24 @@ module _ {S W : Type 0} (k : Ghosts S W) (m : S) (number : W → ℕ) (glyph : G
 
   -- the glyph that a line which is taken gets in any case, and what fits behind it
   pub first_taken : (before width : W) (at n : ℕ) → at + suc n ≤ word.len → number before + reach (at + suc n) < reach at + 2 ^ 32 →
-      let g = k.sum_of m k.NIL (glyph_at (next up at n)) in (number g + reach (next up at n) ≡ reach (next up at n + 1)) × Took number reach up before width g (later up at) n (fits k m row up before width g (later up at) n)
+      let g = k.sum_of m (k.nil_of m) (glyph_at (next up at n)) in (number g + reach (next up at n) ≡ reach (next up at n + 1)) × Took number reach up before width g (later up at) n (fits k m row up before width g (later up at) n)
   first_taken before width at n fit small =
       let x = glyph_at (next up at n) in
       let (one, bal, rest, all) = one_glyph at n fit in
       let none = exact.nilled in
-      let g_is = exact.sums k.NIL x (omega arith) in
-      (omega arith, fits_sum before width (k.sum_of m k.NIL x) (later up at) n (omega (arith, later_most up at n)) (omega arith))
+      let g_is = exact.sums (k.nil_of m) x (omega arith) in
+      (omega arith, fits_sum before width (k.sum_of m (k.nil_of m) x) (later up at) n (omega (arith, later_most up at n)) (omega arith))
 
   -- what an overflowing word gives is as wide as its glyphs add up to
   pub cut_sum : (rule : Rule W) (before : W) (laid at n : ℕ) → at + n ≤ word.len → number before + reach (at + n) < reach at + 2 ^ 32 →
       let got = cut k m rule row up before laid at n in number got.1 ≡ passed up (reach at) (reach got.0) (reach (at + n))
   cut_sum Never before laid at n fit small = omega (arith, passed_nothing reach up at n, exact.nilled)
-  cut_sum (Closing width ellipsis) before laid at n fit small = omega (arith, (fits_sum before (k.difference_of m width ellipsis) k.NIL at n fit (omega (arith, exact.nilled))).sum_is, exact.nilled)
+  cut_sum (Closing width ellipsis) before laid at n fit small = omega (arith, (fits_sum before (k.difference_of m width ellipsis) (k.nil_of m) at n fit (omega (arith, exact.nilled))).sum_is, exact.nilled)
   cut_sum (Taking width) before laid at zero fit small = omega (arith, passed_nothing reach up at zero, exact.nilled)
   cut_sum (Taking width) before laid at (suc n) fit small =
-      let g = k.sum_of m k.NIL (glyph_at (next up at n)) in
+      let g = k.sum_of m (k.nil_of m) (glyph_at (next up at n)) in
       let (one, took) = first_taken before width at n fit small in
-      cond_both (eqb laid 0) (fits k m row up before width g (later up at) n) (next up at (suc n), k.NIL) (λ (got : ℕ × W). number got.1 ≡ passed up (reach at) (reach got.0) (reach (at + suc n)))
+      cond_both (eqb laid 0) (fits k m row up before width g (later up at) n) (next up at (suc n), k.nil_of m) (λ (got : ℕ × W). number got.1 ≡ passed up (reach at) (reach got.0) (reach (at + suc n)))
       (λ _. first n g (fits k m row up before width g (later up at) n) one (fits_among k m row up before width g (later up at) n) took.sum_is)
       (λ _. omega (arith, passed_nothing reach up at (suc n), exact.nilled))
     where

@@ -43,8 +43,8 @@ module _ {S W : Type 0} (k : Ghosts S W) (m : S) (width : W) where
   cut_some : (row : List Glyph) (up : Bool) (before : W) (laid at n : ℕ) → 0 < n → 0 < laid + taken up at n (cut k m (Taking width) row up before laid at n).0
   cut_some row up before laid at zero l = absurd (omega arith)
   cut_some row up before laid at (suc n) l =
-      let g = k.sum_of m k.NIL (width_at k m row (next up at n)) in
-      cond_both (eqb laid 0) (fits k m row up before width g (later up at) n) (next up at (suc n), k.NIL) (λ (got : ℕ × W). 0 < laid + taken up at (suc n) got.0)
+      let g = k.sum_of m (k.nil_of m) (width_at k m row (next up at n)) in
+      cond_both (eqb laid 0) (fits k m row up before width g (later up at) n) (next up at (suc n), k.nil_of m) (λ (got : ℕ × W). 0 < laid + taken up at (suc n) got.0)
       (λ _. omega (arith, took_one up at n _ (fits_among k m row up before width g (later up at) n)))
       (λ e. let z = eqb-false laid 0 e in omega arith)
 
@@ -72,7 +72,7 @@ module _ {S W : Type 0} (k : Ghosts S W) (m : S) (width : W) where
             cut_some (row_of t.glyphs word) up (k.sum_of m l.width R) laid (low a w) (part_size a w word) (ltb-true 0 (part_size a w word) (and_parts (ltb 0 (part_size a w word)) (k.over_of m (k.sum_of m (k.sum_of m l.width R) (part_width k m t sp a w)) width) over).0))
             (λ _ _ _ _ _ _. tt)
             (λ _ _ _ _ _ z. absurd (false≢true z))
-            k.NIL l.blanks l.laid a.start.word (words_in a) tt
+            (k.nil_of m) l.blanks l.laid a.start.word (words_in a) tt
 
     pub some_taken : Sound t → exists t p ≡ true → (way : LayoutDirection) → SomeTaken t p (lay k m t p rule way)
     some_taken sound here way some = by (cases_Bool (lay k m t p rule way).flagged)
@@ -90,7 +90,7 @@ module _ {S W : Type 0} (k : Ghosts S W) (m : S) (number : W → ℕ) (glyph : G
       let got = cut k m (Taking width) (row_of t.glyphs word) up before laid at n in (number before + number got.1 ≤ number width) ⊎ (laid + taken up at n got.0 ≡ 1)
   cut_taken width word up before laid at zero fit small fits = inl (omega (arith, exact.nilled))
   cut_taken width word up before laid at (suc n) fit small in_width =
-      cond_both (eqb laid 0) (fits k m row up before width g (later up at) n) (next up at (suc n), k.NIL) (λ (got : ℕ × W). (number before + number got.1 ≤ number width) ⊎ (laid + taken up at (suc n) got.0 ≡ 1))
+      cond_both (eqb laid 0) (fits k m row up before width g (later up at) n) (next up at (suc n), k.nil_of m) (λ (got : ℕ × W). (number before + number got.1 ≤ number width) ⊎ (laid + taken up at (suc n) got.0 ≡ 1))
       (λ e. by (eqb-true laid 0 e) (first_taken k m number glyph from exact t word up before width at n fit small).1.fits_or_none)
       (λ _. inl (omega (arith, exact.nilled)))
     where
@@ -98,7 +98,7 @@ module _ {S W : Type 0} (k : Ghosts S W) (m : S) (number : W → ℕ) (glyph : G
       row = row_of t.glyphs word
 
       g : W
-      g = k.sum_of m k.NIL (width_at k m row (next up at n))
+      g = k.sum_of m (k.nil_of m) (width_at k m row (next up at n))
 
       by : laid ≡ 0 → (number before + number (fits k m row up before width g (later up at) n).1 ≤ number width) ⊎ (((fits k m row up before width g (later up at) n).0 ≡ next up (later up at) n) × (number (fits k m row up before width g (later up at) n).1 ≡ number g)) → (number before + number (fits k m row up before width g (later up at) n).1 ≤ number width) ⊎ (laid + taken up at (suc n) (fits k m row up before width g (later up at) n).0 ≡ 1)
       by e (inl l) = inl l

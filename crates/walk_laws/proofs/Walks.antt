@@ -107,7 +107,7 @@ module _ {S W : Type 0} (k : Ghosts S W) (m : S) (t : Text) (p : Position) (rule
       let sp = span_at t s in
       let a = ahead_of t p s in
       let q = part_of k m t p rule way l s first count in
-      let law = span_law t sp sound a (ahead_part t p here s) k m p rule (ups s) first count l.width k.NIL l.blanks l.laid a.start.word (words_in a) (still_all (ups s) a) in
+      let law = span_law t sp sound a (ahead_part t p here s) k m p rule (ups s) first count l.width (k.nil_of m) l.blanks l.laid a.start.word (words_in a) (still_all (ups s) a) in
       subst (λ (i : ℕ). SpanLaw t sp a (ups s) i (boundary t sp a.end) l.laid q) (joins_first t sp sound a (ahead_part t p here s))
       (subst (λ (i : ℕ). SpanLaw t sp a (ups s) (join t sp a a.start.word) i l.laid q) (joins_last t sp sound a (ahead_part t p here s)) law)
 
