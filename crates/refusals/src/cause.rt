@@ -3,8 +3,8 @@ ghost use Rattle.std.specs.Prelude.{◌≡◌, ℕ, ◌≤◌};
 
 /// A cause of refusals, which is known by a number.
 pub trait Cause {
-    /// The name under which a refusal with such a cause is shown by `{:?}`.
-    const FAULT: &'static str;
+    /// The name under which a refusal with such a cause is shown by `{:?}`: `Fault`, unless the layer gives its own.
+    const FAULT: &'static str = "Fault";
 
     ghost number_of: { Self → ℕ };
 

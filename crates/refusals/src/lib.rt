@@ -2,11 +2,17 @@
 // printed is said here once.
 //
 // - `cause`: what a cause is, the trait;
-// - `fault`: the refusal.
+// - `fault`: the refusal;
+// - `unnamed`: the refusal without the name that its layer gives it.
 #![tactic(auto)]
 
 mod cause;
 mod fault;
+mod unnamed;
 
 pub use cause::Cause;
 pub use fault::Fault;
+pub use unnamed::Unnamed;
+
+#[cfg(test)]
+mod tests;
