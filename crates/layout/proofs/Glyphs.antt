@@ -23,6 +23,7 @@ pub or_answer : {P : Type 0} (o : Option ℕ) (n none : ℕ) → (P → n ≡ no
 or_answer None n none f e = f e
 or_answer (Some x) n none f e = e
 
+-- For proofs of callers, no step of one here: 0 stands where there is no end, and the options are what an iterator's `max` and `min` give
 pub any_end : (gs : List Glyph) → unwrap_or (if_any largest_end gs) 0 ≡ largest_end gs
 any_end [] = refl
 any_end (g ∷ gs) = refl
